@@ -1,0 +1,5 @@
+pub mod Checks
+pub mod Places
+pub mod Digits
+pub mod Codes
+pub mod Cases
