@@ -1,0 +1,9 @@
+pub mod Sets
+pub mod Rules
+pub mod Walk
+pub mod Records
+pub mod Sealed
+pub mod Rows
+pub mod Laws
+pub mod Fewest
+pub mod Cases

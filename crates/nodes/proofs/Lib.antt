@@ -1,0 +1,11 @@
+pub mod Blanks
+pub mod Adding
+pub mod Children
+pub mod Finds
+pub mod LowFirst
+pub mod Numbers
+pub mod Written
+pub mod Memories
+pub mod Rows
+pub mod ByteRecords
+pub mod ByteCalls

@@ -1,0 +1,11 @@
+pub mod Bounds
+pub mod Labels
+pub mod Loads
+pub mod Making
+pub mod Speeds
+pub mod Stores
+pub mod Flats
+pub mod Blocks
+pub mod Palettes
+pub mod Spots
+pub mod TagCases
