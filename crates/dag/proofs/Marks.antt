@@ -9,7 +9,7 @@ use native.Mathlib.Omega.{arith}
 use native.Mathlib.Numerals.{add-one}
 use lib.Dec.{ltb, eqb}
 use lib.ListN.{length}
-use Rattle.std.proofs.shelf.Tests.{cond-true, cond-false, cases-bool, lt-ltb, le-ltb, ltb-true, ltb-false, eq-eqb, ne-eqb, and-from, and-left}
+use Rattle.std.proofs.shelf.Tests.{cond-true, cond-false, cases-bool, lt-ltb, le-ltb, ltb-true, ltb-false, eq-eqb, ne-eqb, and-from, and-left, and-right}
 use Rattle.cells.specs.Hall.{bit}
 use Rattle.cells.specs.SubCubes.{subCube, child}
 use Rattle.nodes.specs.Records.{none}
@@ -27,7 +27,7 @@ use Rattle.dag.proofs.Visits.{times-eight}
 
 -- ---- a code in its sub-cubes
 
-child-is : (k c : ℕ) → child (suc k) c ≡ c / 8 ^ k % 8
+pub child-is : (k c : ℕ) → child (suc k) c ≡ c / 8 ^ k % 8
 child-is k c = ap (λ j. c / 8 ^ j % 8) (omega arith)
 
 pub child-below : (k c : ℕ) → child (suc k) c < 8
@@ -63,11 +63,16 @@ occupied-cell cells c =
 
 -- ---- one step of a walk
 
-walk-shut : (ns : List Node) (k n c : ℕ) → bit (child (suc k) c) (nodeAt ns n .mask) ≡ 0 → walk ns (suc k) n c ≡ false
+pub walk-shut : (ns : List Node) (k n c : ℕ) → bit (child (suc k) c) (nodeAt ns n .mask) ≡ 0 → walk ns (suc k) n c ≡ false
 unfolding walk
 walk-shut ns k n c e = rw e refl
 
-walk-on : (ns : List Node) (k n c : ℕ) → bit (child (suc k) c) (nodeAt ns n .mask) ≡ 1
+-- a link that does not lead on is free
+pub walk-stray : (ns : List Node) (k n c : ℕ) → leads ns n k (linkOf (nodeAt ns n) (child (suc k) c)) ≡ false → walk ns (suc k) n c ≡ false
+unfolding walk
+walk-stray ns k n c l = rw l (and-left _ _ (and-right _ _ refl))
+
+pub walk-on : (ns : List Node) (k n c : ℕ) → bit (child (suc k) c) (nodeAt ns n .mask) ≡ 1
     → leads ns n k (linkOf (nodeAt ns n) (child (suc k) c)) ≡ true
     → walk ns (suc k) n c ≡ walk ns k (linkOf (nodeAt ns n) (child (suc k) c)) c
 unfolding walk
@@ -103,11 +108,11 @@ module _ (cells : List ℕ) (ns : List Node) where
         subst (Known cells ns k) (child-step k c)
         (kids (child (suc k) c) (child-below k c) (subst (λ u. occupied cells k u ≡ true) (sym (child-step k c)) o))
 
-  path-more : (k n c : ℕ) → total (path ns (suc k) n c) ≡ offsetOf (nodeAt ns n) (child (suc k) c) + total (path ns k (linkOf (nodeAt ns n) (child (suc k) c)) c)
+  pub path-more : (k n c : ℕ) → total (path ns (suc k) n c) ≡ offsetOf (nodeAt ns n) (child (suc k) c) + total (path ns k (linkOf (nodeAt ns n) (child (suc k) c)) c)
   unfolding path
   path-more k n c = refl
 
-  path-none : (m c : ℕ) → total (path ns 0 m c) ≡ 0
+  pub path-none : (m c : ℕ) → total (path ns 0 m c) ≡ 0
   unfolding path
   path-none m c = refl
 

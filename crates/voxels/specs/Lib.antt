@@ -1,0 +1,6 @@
+pub mod Phases
+pub mod Finds
+pub mod Looks
+pub mod Stages
+pub mod Stands
+pub mod WorkedCases
