@@ -20,10 +20,10 @@ pub trait TagKind: Copy {
     // the tag that a word reads as, or absent
     ghost reading: { ℕ → Option Self };
 
-    // reading a tag's word gives that tag
+    // there and back is the same tag
     law back: { (t : Self) → reading (wordOf t) ≡ Some t };
 
-    // a word that reads as a tag is that tag's word
+    // no other word reads as it
     law only: { (w : ℕ) (t : Self) → reading w ≡ Some t → wordOf t ≡ w };
 
     // a tag is written in 1 to 4 bytes
@@ -50,13 +50,13 @@ pub trait RankedKind: TagKind {
     // whether the first tag is at least as strict as the second
     ghost stricter: { Self → Self → Bool };
 
-    // of two tags one is at least as strict as the other
+    // any two tags compare
     law total: { (a b : Self) → (stricter a b || stricter b a) ≡ true };
 
-    // if each is, they are the same tag
+    // two different tags never tie
     law same: { (a b : Self) → stricter a b ≡ true → stricter b a ≡ true → a ≡ b };
 
-    // the order carries over a third tag
+    // stricter than the stricter is stricter
     law through: { (a b c : Self) → stricter a b ≡ true → stricter b c ≡ true → stricter a c ≡ true };
 
     // Whether this tag is at least as strict as the other.

@@ -1,8 +1,12 @@
 // The flat store as a store of words.
 ghost use mathlib.Core.Path.{_≡_};
-ghost use mathlib.Core.List.{[]};
-ghost use lib.ListN.{length};
+ghost use mathlib.Core.Bool.{not, cond};
+ghost use mathlib.Core.List.{[], _∷_, _++_};
+ghost use lib.ListN.{length, set};
 ghost use denote.Ref.{now};
+ghost use Rattle.std.specs.shelf.Maps.{nth};
+ghost use Rattle.cells.specs.Refusals.{answer, refuse-if, gives};
+ghost use Rattle.tags.specs.Stores.{canAdd, canChange};
 ghost use Rattle.tags.specs.Flats.{flatWords, flatAdmits, flat-none, flat-most, flat-held};
 use super::FlatStore;
 use crate::store::MOST_WORDS;
@@ -16,6 +20,47 @@ impl<'a> FlatStore<'a> {
         ensures rule { λ r. ⌜ flatAdmits (length (now (r .numbers))) ≡ flatAdmits (length (now (numbers .entry))) ⌝ }
     {
         FlatStore { numbers, count: 0 }
+    }
+
+    // Word n, or absent past the end.
+    fn word_at(&self, n: usize) -> Option<u32>
+        ensures { λ r. ⌜ r ≡ nth (flatWords (now (now (self .entry) .numbers)) (now (self .entry) .count)) n ⌝ }
+    {
+        if n < self.count {
+            Some(self.numbers[n])
+        } else {
+            None
+        }
+    }
+
+    // One more word at the end, if there is room.
+    fn push(&mut self, word: u32) -> Result<(), Refusal>
+        ensures answer { λ r. ⌜ answer r ≡ refuse-if (not (canAdd (flatAdmits (length (now (now (self .entry) .numbers)))) (flatWords (now (now (self .entry) .numbers)) (now (self .entry) .count)) word)) 7 (gives tt) ⌝ }
+        ensures words { λ _. ⌜ flatWords (now (now (self .exit) .numbers)) (now (self .exit) .count) ≡ cond (canAdd (flatAdmits (length (now (now (self .entry) .numbers)))) (flatWords (now (now (self .entry) .numbers)) (now (self .entry) .count)) word) (flatWords (now (now (self .entry) .numbers)) (now (self .entry) .count) ++ word ∷ []) (flatWords (now (now (self .entry) .numbers)) (now (self .entry) .count)) ⌝ }
+        ensures rule { λ _. ⌜ flatAdmits (length (now (now (self .exit) .numbers))) ≡ flatAdmits (length (now (now (self .entry) .numbers))) ⌝ }
+    {
+        if self.count >= self.numbers.len() {
+            return Err(Refusal::StoreFull);
+        }
+        if self.count >= MOST_WORDS {
+            return Err(Refusal::StoreFull);
+        }
+        self.numbers[self.count] = word;
+        self.count += 1;
+        Ok(())
+    }
+
+    // Another word in the place of word n, if it is there.
+    fn replace(&mut self, n: usize, word: u32) -> Result<(), Refusal>
+        ensures answer { λ r. ⌜ answer r ≡ refuse-if (not (canChange (flatAdmits (length (now (now (self .entry) .numbers)))) (flatWords (now (now (self .entry) .numbers)) (now (self .entry) .count)) n word)) 7 (gives tt) ⌝ }
+        ensures words { λ _. ⌜ flatWords (now (now (self .exit) .numbers)) (now (self .exit) .count) ≡ cond (canChange (flatAdmits (length (now (now (self .entry) .numbers)))) (flatWords (now (now (self .entry) .numbers)) (now (self .entry) .count)) n word) (set (flatWords (now (now (self .entry) .numbers)) (now (self .entry) .count)) n word) (flatWords (now (now (self .entry) .numbers)) (now (self .entry) .count)) ⌝ }
+        ensures rule { λ _. ⌜ flatAdmits (length (now (now (self .exit) .numbers))) ≡ flatAdmits (length (now (now (self .entry) .numbers))) ⌝ }
+    {
+        if n >= self.count {
+            return Err(Refusal::StoreFull);
+        }
+        self.numbers[n] = word;
+        Ok(())
     }
 }
 
@@ -31,31 +76,15 @@ pub impl TagStore for FlatStore<'_> as FlatTags {
     }
 
     fn word(&self, n: usize) -> Option<u32> {
-        if n < self.count {
-            Some(self.numbers[n])
-        } else {
-            None
-        }
+        self.word_at(n)
     }
 
     fn add(&mut self, word: u32) -> Result<(), Refusal> {
-        if self.count >= self.numbers.len() {
-            return Err(Refusal::StoreFull);
-        }
-        if self.count >= MOST_WORDS {
-            return Err(Refusal::StoreFull);
-        }
-        self.numbers[self.count] = word;
-        self.count += 1;
-        Ok(())
+        self.push(word)
     }
 
     fn change(&mut self, n: usize, word: u32) -> Result<(), Refusal> {
-        if n >= self.count {
-            return Err(Refusal::StoreFull);
-        }
-        self.numbers[n] = word;
-        Ok(())
+        self.replace(n, word)
     }
 
     fn empty(&mut self) {

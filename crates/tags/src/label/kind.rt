@@ -30,6 +30,13 @@ impl Label {
     }
 }
 
+// The tag whose word it is, or absent.
+fn label_of(word: u32) -> Option<Label>
+    ensures { λ r. ⌜ r ≡ labelOf word ⌝ }
+{
+    Label::new(word).ok()
+}
+
 pub impl TagKind for Label as LabelKind {
     const WIDTH: usize = 2;
 
@@ -48,6 +55,6 @@ pub impl TagKind for Label as LabelKind {
     }
 
     fn read(word: u32) -> Option<Label> {
-        Label::new(word).ok()
+        label_of(word)
     }
 }

@@ -33,6 +33,15 @@ impl Load {
     }
 }
 
+// The tag whose word it is, or absent.
+fn load_of(word: u32) -> Option<Load>
+    ensures { λ r. ⌜ r ≡ loadOf word ⌝ }
+{
+    let load = word % LOADS_PER_ZONE;
+    let zone = word / LOADS_PER_ZONE;
+    Load::new(load, zone).ok()
+}
+
 pub impl TagKind for Load as LoadKind {
     const WIDTH: usize = 3;
 
@@ -51,9 +60,7 @@ pub impl TagKind for Load as LoadKind {
     }
 
     fn read(word: u32) -> Option<Load> {
-        let load = word % LOADS_PER_ZONE;
-        let zone = word / LOADS_PER_ZONE;
-        Load::new(load, zone).ok()
+        load_of(word)
     }
 }
 

@@ -1,8 +1,12 @@
 // The palette store as a store of words.
 ghost use mathlib.Core.Path.{_≡_};
-ghost use mathlib.Core.List.{[]};
-ghost use lib.ListN.{length};
+ghost use mathlib.Core.Bool.{not, cond};
+ghost use mathlib.Core.List.{[], _∷_, _++_};
+ghost use lib.ListN.{length, set};
 ghost use denote.Ref.{now};
+ghost use Rattle.std.specs.shelf.Maps.{nth};
+ghost use Rattle.cells.specs.Refusals.{answer, refuse-if, gives};
+ghost use Rattle.tags.specs.Stores.{canAdd, canChange};
 ghost use Rattle.tags.specs.Palettes.{paletteAdmits, palette-none, palette-most};
 ghost use Rattle.tags.specs.Blocks.{paletteWords};
 use super::PaletteStore;
@@ -20,20 +24,18 @@ impl<'a> PaletteStore<'a> {
     {
         PaletteStore { blocks, count: 0 }
     }
-}
 
-pub impl TagStore for PaletteStore<'_> as PaletteTags {
-    ghost words = { λ s. paletteWords (now (s .blocks)) (s .count) };
-
-    ghost admits = { λ s. paletteAdmits (length (now (s .blocks))) };
-
-    ghost laws = { record { none = λ s. palette-none (length (now (s .blocks))); most = λ s. palette-most (length (now (s .blocks))); held = λ s. s .held } };
-
-    fn count(&self) -> usize {
-        self.count // words in use
+    // How many words there are.
+    fn len(&self) -> usize
+        ensures { λ r. ⌜ r ≡ length (paletteWords (now (now (self .entry) .blocks)) (now (self .entry) .count)) ⌝ }
+    {
+        self.count
     }
 
-    fn word(&self, n: usize) -> Option<u32> {
+    // Word n, or absent past the end.
+    fn word_at(&self, n: usize) -> Option<u32>
+        ensures { λ r. ⌜ r ≡ nth (paletteWords (now (now (self .entry) .blocks)) (now (self .entry) .count)) n ⌝ }
+    {
         if n < self.count {
             let block = self.blocks[n / BLOCK_WORDS];
             Some(block.word(n % BLOCK_WORDS))
@@ -42,7 +44,12 @@ pub impl TagStore for PaletteStore<'_> as PaletteTags {
         }
     }
 
-    fn add(&mut self, word: u32) -> Result<(), Refusal> {
+    // One more word at the end, if its block has a place for it.
+    fn push(&mut self, word: u32) -> Result<(), Refusal>
+        ensures answer { λ r. ⌜ answer r ≡ refuse-if (not (canAdd (paletteAdmits (length (now (now (self .entry) .blocks)))) (paletteWords (now (now (self .entry) .blocks)) (now (self .entry) .count)) word)) 7 (gives tt) ⌝ }
+        ensures words { λ _. ⌜ paletteWords (now (now (self .exit) .blocks)) (now (self .exit) .count) ≡ cond (canAdd (paletteAdmits (length (now (now (self .entry) .blocks)))) (paletteWords (now (now (self .entry) .blocks)) (now (self .entry) .count)) word) (paletteWords (now (now (self .entry) .blocks)) (now (self .entry) .count) ++ word ∷ []) (paletteWords (now (now (self .entry) .blocks)) (now (self .entry) .count)) ⌝ }
+        ensures rule { λ _. ⌜ paletteAdmits (length (now (now (self .exit) .blocks))) ≡ paletteAdmits (length (now (now (self .entry) .blocks))) ⌝ }
+    {
         if self.count >= MOST_WORDS {
             return Err(Refusal::StoreFull);
         }
@@ -60,7 +67,12 @@ pub impl TagStore for PaletteStore<'_> as PaletteTags {
         Ok(())
     }
 
-    fn change(&mut self, n: usize, word: u32) -> Result<(), Refusal> {
+    // Another word in the place of word n, if it is there and its block has a place for the new one.
+    fn replace(&mut self, n: usize, word: u32) -> Result<(), Refusal>
+        ensures answer { λ r. ⌜ answer r ≡ refuse-if (not (canChange (paletteAdmits (length (now (now (self .entry) .blocks)))) (paletteWords (now (now (self .entry) .blocks)) (now (self .entry) .count)) n word)) 7 (gives tt) ⌝ }
+        ensures words { λ _. ⌜ paletteWords (now (now (self .exit) .blocks)) (now (self .exit) .count) ≡ cond (canChange (paletteAdmits (length (now (now (self .entry) .blocks)))) (paletteWords (now (now (self .entry) .blocks)) (now (self .entry) .count)) n word) (set (paletteWords (now (now (self .entry) .blocks)) (now (self .entry) .count)) n word) (paletteWords (now (now (self .entry) .blocks)) (now (self .entry) .count)) ⌝ }
+        ensures rule { λ _. ⌜ paletteAdmits (length (now (now (self .exit) .blocks))) ≡ paletteAdmits (length (now (now (self .entry) .blocks))) ⌝ }
+    {
         if n >= self.count {
             return Err(Refusal::StoreFull);
         }
@@ -74,7 +86,39 @@ pub impl TagStore for PaletteStore<'_> as PaletteTags {
         Ok(())
     }
 
-    fn empty(&mut self) {
+    // Leaves no words.
+    fn clear(&mut self)
+        ensures words { λ _. ⌜ paletteWords (now (now (self .exit) .blocks)) (now (self .exit) .count) ≡ [] ⌝ }
+        ensures rule { λ _. ⌜ paletteAdmits (length (now (now (self .exit) .blocks))) ≡ paletteAdmits (length (now (now (self .entry) .blocks))) ⌝ }
+    {
         self.count = 0;
+    }
+}
+
+pub impl TagStore for PaletteStore<'_> as PaletteTags {
+    ghost words = { λ s. paletteWords (now (s .blocks)) (s .count) };
+
+    ghost admits = { λ s. paletteAdmits (length (now (s .blocks))) };
+
+    ghost laws = { record { none = λ s. palette-none (length (now (s .blocks))); most = λ s. palette-most (length (now (s .blocks))); held = λ s. s .held } };
+
+    fn count(&self) -> usize {
+        self.len()
+    }
+
+    fn word(&self, n: usize) -> Option<u32> {
+        self.word_at(n)
+    }
+
+    fn add(&mut self, word: u32) -> Result<(), Refusal> {
+        self.push(word)
+    }
+
+    fn change(&mut self, n: usize, word: u32) -> Result<(), Refusal> {
+        self.replace(n, word)
+    }
+
+    fn empty(&mut self) {
+        self.clear();
     }
 }

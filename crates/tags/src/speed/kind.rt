@@ -26,6 +26,13 @@ impl Speed {
     }
 }
 
+// The tag whose word it is, or absent.
+fn speed_of(word: u32) -> Option<Speed>
+    ensures { λ r. ⌜ r ≡ speedOf word ⌝ }
+{
+    Speed::new(word).ok()
+}
+
 pub impl TagKind for Speed as SpeedKind {
     const WIDTH: usize = 2;
 
@@ -44,7 +51,7 @@ pub impl TagKind for Speed as SpeedKind {
     }
 
     fn read(word: u32) -> Option<Speed> {
-        Speed::new(word).ok()
+        speed_of(word)
     }
 }
 

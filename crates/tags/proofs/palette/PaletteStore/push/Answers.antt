@@ -7,7 +7,7 @@ use Rattle.std.proofs.shelf.Tests.{cond-true, cond-false}
 use Rattle.tags.specs.Palettes.{paletteAdmits}
 use Rattle.tags.proofs.Takes.{answer-accepted, answer-refused}
 use Rattle.tags.proofs.PaletteTakes.{no-room, add-none, add-took}
-use Rattle.tags.proofs.palette.words.PaletteTags.add.Needs as need
+use Rattle.tags.proofs.palette.PaletteStore.push.Needs as need
 
 pub returns-then-self-ge-MOST-WORDS : need.returns-then-self-ge-MOST-WORDS
 returns-then-self-ge-MOST-WORDS c =

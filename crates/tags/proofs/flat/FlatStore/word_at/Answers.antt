@@ -1,6 +1,6 @@
 use native.Mathlib.Omega.{arith}
 use Rattle.tags.proofs.Takes.{flat-word, flat-absent}
-use Rattle.tags.proofs.flat.words.FlatTags.word.Needs as need
+use Rattle.tags.proofs.flat.FlatStore.word_at.Needs as need
 
 pub returns-then-n-self : need.returns-then-n-self
 returns-then-n-self c =

@@ -6,7 +6,7 @@ use Rattle.std.proofs.shelf.Lists.{take-more-set}
 use Rattle.std.proofs.shelf.Tests.{cond-true, cond-false}
 use Rattle.tags.specs.Flats.{flatAdmits}
 use Rattle.tags.proofs.Takes.{answer-accepted, answer-refused, flat-adds, flat-full}
-use Rattle.tags.proofs.flat.words.FlatTags.add.Needs as need
+use Rattle.tags.proofs.flat.FlatStore.push.Needs as need
 
 pub returns-then-self : need.returns-then-self
 returns-then-self c =

@@ -5,7 +5,7 @@ use lib.Seq.{take-set-lt}
 use Rattle.std.proofs.shelf.Tests.{cond-true, cond-false}
 use Rattle.tags.specs.Flats.{flatAdmits}
 use Rattle.tags.proofs.Takes.{answer-accepted, answer-refused, flat-changes, flat-past}
-use Rattle.tags.proofs.flat.words.FlatTags.change.Needs as need
+use Rattle.tags.proofs.flat.FlatStore.replace.Needs as need
 
 pub returns-then-n-self : need.returns-then-n-self
 returns-then-n-self c =

@@ -6,7 +6,7 @@ use Rattle.std.specs.declared.option.Option.the-variants.{Some}
 use Rattle.std.proofs.shelf.Lists.{getD-default}
 use Rattle.tags.specs.Blocks.{blank, spelled}
 use Rattle.tags.proofs.PaletteTakes.{palette-word, palette-absent}
-use Rattle.tags.proofs.palette.words.PaletteTags.word.Needs as need
+use Rattle.tags.proofs.palette.PaletteStore.word_at.Needs as need
 
 pub returns-then-n-self : need.returns-then-n-self
 returns-then-n-self c =

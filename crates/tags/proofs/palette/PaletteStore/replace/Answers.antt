@@ -6,7 +6,7 @@ use Rattle.std.proofs.shelf.Tests.{cond-true, cond-false}
 use Rattle.tags.specs.Palettes.{paletteAdmits}
 use Rattle.tags.proofs.Takes.{answer-accepted, answer-refused}
 use Rattle.tags.proofs.PaletteTakes.{no-word, change-none, change-took, can-change}
-use Rattle.tags.proofs.palette.words.PaletteTags.change.Needs as need
+use Rattle.tags.proofs.palette.PaletteStore.replace.Needs as need
 
 pub returns-then-n-self : need.returns-then-n-self
 returns-then-n-self c =
