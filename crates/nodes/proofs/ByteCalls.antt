@@ -1,5 +1,5 @@
 -- The byte pool's memory after each call.
-use Prim.Native.Nat.{ℕ, min, _+_, _-_, _*_, _/_, _<_, _≤_}
+use Prim.Native.Nat.{ℕ, _+_, _-_, _*_, _/_, _<_, _≤_}
 use mathlib.Core.Path.{_≡_, refl, sym, ap, subst, _∙_}
 use mathlib.Core.List.{List, [], _∷_, _++_}
 use native.Mathlib.Omega.{arith}
@@ -38,13 +38,11 @@ stays m m′ front list count le f h =
       behind = ap (λ p. drop (nodeBytes * p) m′) e ∙ h .behind;
     }
 
-pub bytes-made : (m m′ : List ℕ) (n c p : ℕ) → p ≡ room (length m) → c ≡ min n p → m′ ≡ over m (nodeBytes * c) (nodeBytes * p) 0 → Stays m m′ (take (nodeBytes * min n (room (length m))) m) (readNodes (min n (room (length m))) m) c
-bytes-made m m′ n c p pe ce e =
-    let ce′ : min n (room (length m)) ≡ c = ap (min n) (sym pe) ∙ sym ce in
+pub bytes-made : (m m′ : List ℕ) (c p : ℕ) → p ≡ room (length m) → c ≤ p → m′ ≡ over m (nodeBytes * c) (nodeBytes * p) 0 → Stays m m′ (take (nodeBytes * c) m) (readNodes c m) c
+bytes-made m m′ c p pe le e =
     let h = made m m′ 0 0 (nodeBytes * c) (nodeBytes * p) (omega arith) (omega arith) refl e in
-    subst (λ k. Stays m m′ (take (nodeBytes * k) m) (readNodes k m) c) (sym ce′)
-    (stays m m′ (take (nodeBytes * c) m) (readNodes c m) c (omega arith) (nodes-front c m (omega arith))
-    (subst (λ q. Leaves 0 m m′ (take (nodeBytes * c) m) (nodeBytes * c) (nodeBytes * q)) pe h))
+    stays m m′ (take (nodeBytes * c) m) (readNodes c m) c (omega arith) (nodes-front c m (omega arith))
+    (subst (λ q. Leaves 0 m m′ (take (nodeBytes * c) m) (nodeBytes * c) (nodeBytes * q)) pe h)
 
 pub bytes-cut : (m m′ : List ℕ) (n c : ℕ) → n ≤ c → c ≤ room (length m) → InOrder 0 (nodeBytes * c) (nodeBytes * room (length m)) m → m′ ≡ over m (nodeBytes * n) (nodeBytes * c) 0 → Stays m m′ (take (nodeBytes * n) m) (take n (readNodes c m)) n
 bytes-cut m m′ n c le in′ h e =

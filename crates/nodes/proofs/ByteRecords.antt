@@ -24,6 +24,10 @@ getD-nodes (suc c) (suc n) bs d lt =
 pub node-past : (c n : ℕ) (bs : List ℕ) → c ≤ n → getD (readNodes c bs) n blank ≡ blank
 node-past c n bs le = getD-past (readNodes c bs) n blank (omega (arith, length-nodes c bs))
 
+pub nodes-none : (c : ℕ) (bs : List ℕ) → c ≡ 0 → readNodes c bs ≡ []
+unfolding readNodes
+nodes-none c bs e = rw e
+
 -- fewer records are the first of them
 pub take-nodes : (n c : ℕ) (bs : List ℕ) → n ≤ c → take n (readNodes c bs) ≡ readNodes n bs
 unfolding readNodes

@@ -1,5 +1,5 @@
 -- The row pool's memory after each call.
-use Prim.Native.Nat.{ℕ, min, _+_, _<_, _≤_}
+use Prim.Native.Nat.{ℕ, _+_, _<_, _≤_}
 use mathlib.Core.Path.{_≡_, sym, ap, subst, _∙_}
 use mathlib.Core.List.{List, [], _∷_, _++_}
 use native.Mathlib.Omega.{arith}
@@ -30,12 +30,10 @@ rows m m′ list count le h =
       behind = ap (λ p. drop p m′) e ∙ h .behind;
     }
 
-pub rows-made : (m m′ : List Node) (z : Node) (n c p : ℕ) → p ≡ capped (length m) → c ≡ min n p → z ≡ blank → m′ ≡ over m c p z → Rows m m′ (take (min n (capped (length m))) m) c
-rows-made m m′ z n c p pe ce ze e =
-    let ce′ : min n (capped (length m)) ≡ c = ap (min n) (sym pe) ∙ sym ce in
-    let h = made m m′ blank z c p (omega arith) (omega arith) ze e in
-    subst (λ k. Rows m m′ (take k m) c) (sym ce′)
-    (rows m m′ (take c m) c (omega arith) (subst (λ q. Leaves blank m m′ (take c m) c q) pe h))
+pub rows-made : (m m′ : List Node) (z : Node) (c p : ℕ) → p ≡ capped (length m) → c ≤ p → z ≡ blank → m′ ≡ over m c p z → Rows m m′ (take c m) c
+rows-made m m′ z c p pe le ze e =
+    let h = made m m′ blank z c p le (omega arith) ze e in
+    rows m m′ (take c m) c (omega arith) (subst (λ q. Leaves blank m m′ (take c m) c q) pe h)
 
 pub rows-cut : (m m′ : List Node) (z : Node) (n c : ℕ) → n ≤ c → c ≤ capped (length m) → InOrder blank c (capped (length m)) m → z ≡ blank → m′ ≡ over m n c z → Rows m m′ (take n (take c m)) n
 rows-cut m m′ z n c le in′ h ze e =

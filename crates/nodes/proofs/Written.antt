@@ -48,6 +48,10 @@ pub written-blank : written blank ≡ replicate nodeBytes 0
 unfolding written bytesOf
 written-blank = refl
 
+-- and so is one that is zero in each part
+pub written-zeros : (level mask link offset : ℕ) → level ≡ 0 → mask ≡ 0 → link ≡ 0 → offset ≡ 0 → written (record { level = level; mask = mask; links = replicate children link; offsets = replicate children offset }) ≡ replicate nodeBytes 0
+written-zeros level mask link offset e f g h = rw (e, f, g, h) written-blank
+
 -- writing and reading a record gives it back
 pub read-written : (node : Node) → Fitting node → readNode (written node) ≡ node
 unfolding readNode written

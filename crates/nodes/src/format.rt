@@ -105,7 +105,8 @@ fn put_offsets(bytes: &mut [u8], offsets: &[u32; CHILDREN])
 pub(crate) fn get_node(bytes: &[u8]) -> Node
     requires { ⌜ length (now bytes) ≡ nodeBytes ⌝ }
     ensures value { λ r. ⌜ r ≡ readNode (now (bytes .entry)) ⌝ }
-    ensures each { λ r. ⌜ Bytes (now (bytes .entry)) ⌝ }
+    ensures fitting { λ r. ⌜ Fitting r ⌝ }
+    ensures back { λ r. ⌜ written r ≡ now (bytes .entry) ⌝ }
 {
     let links = links(&bytes[LINKS_AT..OFFSETS_AT]);
     let offsets = offsets(&bytes[OFFSETS_AT..NODE_BYTES]);
@@ -122,6 +123,7 @@ pub(crate) fn put_node(bytes: &mut [u8], node: &Node)
     requires { ⌜ length (now bytes) ≡ nodeBytes ⌝ }
     ensures bytes { λ _. ⌜ now (bytes .exit) ≡ written (now (node .entry)) ⌝ }
     ensures fitting { λ _. ⌜ Fitting (now (node .entry)) ⌝ }
+    ensures back { λ _. ⌜ readNode (now (bytes .exit)) ≡ now (node .entry) ⌝ }
 {
     bytes[0] = node.level;
     bytes[1] = node.mask;

@@ -2,7 +2,7 @@
 ghost use mathlib.Core.Path.{_≡_};
 ghost use Rattle.std.specs.Orderings.{Decides};
 ghost use lib.ListN.{replicate};
-ghost use Rattle.nodes.specs.Records.{blank};
+ghost use Rattle.nodes.specs.Records.{blank, children};
 ghost use Rattle.nodes.specs.Format.{nodeBytes, written};
 use cells::row::Entry;
 
@@ -33,12 +33,20 @@ impl Node {
         ensures value { λ r. ⌜ r ≡ blank ⌝ }
         ensures zeros { λ r. ⌜ written r ≡ replicate nodeBytes 0 ⌝ }
     {
-        Node {
-            level: 0,
-            mask: 0,
-            links: [0; CHILDREN],
-            offsets: [0; CHILDREN],
-        }
+        alike(0, 0, 0, 0)
+    }
+}
+
+// The record whose children all have one link and one offset.
+fn alike(level: u8, mask: u8, link: u16, offset: u32) -> Node
+    ensures value { λ r. ⌜ r ≡ record { level = level; mask = mask; links = replicate children link; offsets = replicate children offset } ⌝ }
+    ensures zeros { λ r. ⌜ (level ≡ 0 → mask ≡ 0 → link ≡ 0 → offset ≡ 0 → written r ≡ replicate nodeBytes 0) ⌝ }
+{
+    Node {
+        level,
+        mask,
+        links: [link; CHILDREN],
+        offsets: [offset; CHILDREN],
     }
 }
 

@@ -4,3 +4,8 @@ pub mod Tables
 pub mod Masks
 pub mod Numbering
 pub mod Closing
+pub mod Few
+pub mod Placing
+pub mod Cutting
+pub mod Sealing
+pub mod Placed

@@ -3,4 +3,6 @@ pub mod Finds
 pub mod Looks
 pub mod Stages
 pub mod Stands
+pub mod Places
+pub mod Closes
 pub mod WorkedCases

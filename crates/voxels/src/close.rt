@@ -1,11 +1,12 @@
 // Closing the levels of a map: the record of a sub-cube that gets no more cells goes into the pool.
 ghost use mathlib.Core.Path.{_≡_};
-ghost use Prim.Native.Nat.{_<_, _≤_};
+ghost use Prim.Native.Nat.{_^_, _<_, _≤_};
 ghost use lib.ListN.{length};
 ghost use Rattle.cells.specs.SubCubes.{subCube};
 ghost use Rattle.nodes.specs.Pools.{front};
 ghost use Rattle.dag.specs.Sealed.{Begins};
 ghost use Rattle.voxels.specs.Stages.{Numbered, Stepped, Carried};
+ghost use Rattle.voxels.specs.Closes.{ClosedRows};
 use crate::row::OpenRow;
 use crate::row::ROWS;
 use cells::refusal::Refusal;
@@ -19,6 +20,14 @@ fn sub_cube(level: u32, code: u32) -> u32
     ensures { λ r. ⌜ r ≡ subCube level code ⌝ }
 {
     code >> (3 * level)
+}
+
+// The number of codes of a hall.
+pub(crate) fn volume(levels: u32) -> u32
+    requires { ⌜ levels ≤ 10 ⌝ }
+    ensures { λ r. ⌜ r ≡ 8 ^ levels ⌝ }
+{
+    1 << (3 * levels)
 }
 
 // The lowest number of an equal record in the pool. Where there is none the record is added, which a full pool refuses.
@@ -84,4 +93,30 @@ pub(crate) fn close_below<P: NodePool>(
         close_level(pool, rows, levels, r as usize, last)?;
     }
     Ok(())
+}
+
+// The rows after all that ends below the next code is closed. A full pool refuses, and is as it was.
+pub(crate) fn closed_rows<P: NodePool>(
+    pool: &mut P,
+    rows: [OpenRow; ROWS],
+    levels: u32,
+    last: u32,
+    code: u32,
+) -> Result<[OpenRow; ROWS], Refusal>
+    requires { ⌜ levels ≤ 10 ⌝ ∗ ⌜ last < code ⌝ }
+    ensures list { λ a. ⌜ Begins (P·NodePool .nodes (now (pool .entry))) (P·NodePool .nodes (now (pool .exit))) ⌝ }
+    ensures fixed { λ a. ⌜ P·NodePool .capacity (now (pool .exit)) ≡ P·NodePool .capacity (now (pool .entry)) ⌝ }
+    ensures untouched { λ a. ⌜ P·NodePool .behind (now (pool .exit)) ≡ P·NodePool .behind (now (pool .entry)) ⌝ }
+    ensures kept { λ a. ⌜ front (length (P·NodePool .nodes (now (pool .entry)))) (P·NodePool .memory (now (pool .exit))) ≡ front (length (P·NodePool .nodes (now (pool .entry)))) (P·NodePool .memory (now (pool .entry))) ⌝ }
+    ensures closed { λ a. ⌜ ClosedRows levels last code (P·NodePool .nodes (now (pool .entry))) (P·NodePool .memory (now (pool .entry))) (P·NodePool .capacity (now (pool .entry))) rows (P·NodePool .nodes (now (pool .exit))) (P·NodePool .memory (now (pool .exit))) a ⌝ }
+{
+    let before = pool.count();
+    let mut left = rows;
+    match close_below(pool, &mut left, levels, last, code) {
+        Ok(()) => Ok(left),
+        Err(refusal) => {
+            pool.cut(before);
+            Err(refusal)
+        }
+    }
 }

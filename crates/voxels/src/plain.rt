@@ -1,7 +1,7 @@
 // The plain state of a map.
 ghost use mathlib.Core.Path.{_≡_};
 ghost use mathlib.Core.Bool.{true};
-ghost use Rattle.voxels.specs.Phases.{levelsIn};
+ghost use Rattle.voxels.specs.Phases.{lastIn, levelsIn};
 use crate::phase::Phase;
 use crate::row::OpenRow;
 use crate::row::ROWS;
@@ -14,4 +14,5 @@ pub(crate) struct Plain {
     pub(crate) last: Option<u32>,
     pub(crate) rows: [OpenRow; ROWS],
     ghost fit: { levelsIn phase levels ≡ true },
+    ghost inside: { lastIn last levels ≡ true },
 }

@@ -1,11 +1,13 @@
 // Making a byte pool, and its meaning as a pool.
 ghost use mathlib.Core.Path.{_≡_};
-ghost use mathlib.Core.List.{[], _++_};
+ghost use mathlib.Core.Bool.{false};
+ghost use mathlib.Core.List.{[], _∷_, _++_};
 ghost use Prim.Native.Nat.{min, _+_, _*_, _/_, _≤_};
-ghost use lib.ListN.{length, take, drop};
+ghost use lib.ListN.{length, getD, take, drop};
 ghost use denote.Ref.{now};
+ghost use Rattle.nodes.specs.Records.{blank, ofChild};
 ghost use Rattle.nodes.specs.Format.{Bytes, Fitting, nodeBytes, readNode, readNodes, valueOf, written};
-ghost use Rattle.nodes.specs.Pools.{bytes as inBytes, capped, capped-bounded};
+ghost use Rattle.nodes.specs.Pools.{bytes as inBytes, capped, capped-bounded, front, full};
 ghost use Rattle.nodes.specs.Memory.{laid};
 ghost use Rattle.nodes.specs.BytePools.{bytes-hold, listOf, list-within, capacityOf, behindOf};
 use super::BytePool;
@@ -51,6 +53,66 @@ impl Lent<'_, u8> {
     {
         put_node(&mut self.places[at..at + NODE_BYTES], node);
     }
+
+    // Record n of the first `count`, or a blank one past them.
+    fn record(&self, count: usize, n: usize) -> Node
+        requires { ⌜ nodeBytes * count ≤ length (now (now self .places)) ⌝ }
+        ensures { λ r. ⌜ r ≡ getD (readNodes count (now (now (self .entry) .places))) n blank ⌝ }
+    {
+        if n < count {
+            self.node(NODE_BYTES * n)
+        } else {
+            Node::blank()
+        }
+    }
+
+    // The level of that record.
+    fn level(&self, count: usize, n: usize) -> u8
+        requires { ⌜ nodeBytes * count ≤ length (now (now self .places)) ⌝ }
+        ensures { λ r. ⌜ r ≡ getD (readNodes count (now (now (self .entry) .places))) n blank .level ⌝ }
+    {
+        if n < count {
+            self.places[NODE_BYTES * n]
+        } else {
+            0
+        }
+    }
+
+    // Its mask.
+    fn mask(&self, count: usize, n: usize) -> u8
+        requires { ⌜ nodeBytes * count ≤ length (now (now self .places)) ⌝ }
+        ensures { λ r. ⌜ r ≡ getD (readNodes count (now (now (self .entry) .places))) n blank .mask ⌝ }
+    {
+        if n < count {
+            self.places[NODE_BYTES * n + 1]
+        } else {
+            0
+        }
+    }
+
+    // Its link i, or 0 where i is no child.
+    fn link(&self, count: usize, n: usize, i: usize) -> u16
+        requires { ⌜ nodeBytes * count ≤ length (now (now self .places)) ⌝ }
+        ensures { λ r. ⌜ r ≡ ofChild i (getD (readNodes count (now (now (self .entry) .places))) n blank .links) ⌝ }
+    {
+        if n < count && i < CHILDREN {
+            self.number(NODE_BYTES * n + LINKS_AT + LINK_BYTES * i, LINK_BYTES) as u16
+        } else {
+            0
+        }
+    }
+
+    // Its offset i, or 0 where i is no child.
+    fn offset(&self, count: usize, n: usize, i: usize) -> u32
+        requires { ⌜ nodeBytes * count ≤ length (now (now self .places)) ⌝ }
+        ensures { λ r. ⌜ r ≡ ofChild i (getD (readNodes count (now (now (self .entry) .places))) n blank .offsets) ⌝ }
+    {
+        if n < count && i < CHILDREN {
+            self.number(NODE_BYTES * n + OFFSETS_AT + OFFSET_BYTES * i, OFFSET_BYTES)
+        } else {
+            0
+        }
+    }
 }
 
 impl<'a> BytePool<'a> {
@@ -61,7 +123,7 @@ impl<'a> BytePool<'a> {
         ensures untouched { λ r. ⌜ behindOf r ≡ drop (nodeBytes * capacityOf r) (now (bytes .entry)) ⌝ }
         ensures memory { λ r. ⌜ now (r .bytes .places) ≡ laid 0 [] (nodeBytes * capacityOf r) (behindOf r) ⌝ }
     {
-        BytePool::over(bytes, 0)
+        BytePool::with_count(bytes, 0)
     }
 
     // A pool over the first n records as they are. All behind them, up to the capacity, becomes blank.
@@ -71,11 +133,66 @@ impl<'a> BytePool<'a> {
         ensures untouched { λ r. ⌜ behindOf r ≡ drop (nodeBytes * capacityOf r) (now (bytes .entry)) ⌝ }
         ensures memory { λ r. ⌜ now (r .bytes .places) ≡ laid 0 (take (nodeBytes * min n (capacityOf r)) (now (bytes .entry))) (nodeBytes * capacityOf r) (behindOf r) ⌝ }
     {
+        let count = n.min((bytes.len() / NODE_BYTES).min(MOST_NODES));
+        BytePool::with_count(bytes, count)
+    }
+
+    // A pool over the first `count` records as they are. All behind them, up to the capacity, becomes blank.
+    fn with_count(bytes: &'a mut [u8], count: usize) -> BytePool<'a>
+        requires { ⌜ count ≤ capped (length (now bytes) / nodeBytes) ⌝ }
+        ensures list { λ r. ⌜ listOf r ≡ readNodes count (now (bytes .entry)) ⌝ }
+        ensures nothing { λ r. ⌜ (count ≡ 0 → listOf r ≡ []) ⌝ }
+        ensures fits { λ r. ⌜ capacityOf r ≡ capped (length (now (bytes .entry)) / nodeBytes) ⌝ }
+        ensures untouched { λ r. ⌜ behindOf r ≡ drop (nodeBytes * capacityOf r) (now (bytes .entry)) ⌝ }
+        ensures memory { λ r. ⌜ now (r .bytes .places) ≡ laid 0 (take (nodeBytes * count) (now (bytes .entry))) (nodeBytes * capacityOf r) (behindOf r) ⌝ }
+    {
         let capacity = (bytes.len() / NODE_BYTES).min(MOST_NODES);
-        let count = n.min(capacity);
         let mut bytes = Lent { places: bytes };
         bytes.blank_out(NODE_BYTES * count, NODE_BYTES * capacity, 0);
         BytePool { bytes, count }
+    }
+}
+
+impl BytePool<'_> {
+    fn len(&self) -> usize
+        ensures { λ r. ⌜ r ≡ length (listOf (now (self .entry))) ⌝ }
+    {
+        self.count
+    }
+
+    fn is_full(&self) -> bool
+        ensures { λ r. ⌜ r ≡ full (listOf (now (self .entry))) (capacityOf (now (self .entry))) ⌝ }
+    {
+        self.count >= (self.bytes.places.len() / NODE_BYTES).min(MOST_NODES)
+    }
+
+    // Puts a record at the end of a pool that is not full, and answers its number.
+    fn push(&mut self, node: Node) -> usize
+        requires { ⌜ full (listOf (now self)) (capacityOf (now self)) ≡ false ⌝ }
+        ensures number { λ r. ⌜ r ≡ length (listOf (now (self .entry))) ⌝ }
+        ensures list { λ r. ⌜ listOf (now (self .exit)) ≡ listOf (now (self .entry)) ++ node ∷ [] ⌝ }
+        ensures fixed { λ r. ⌜ capacityOf (now (self .exit)) ≡ capacityOf (now (self .entry)) ⌝ }
+        ensures untouched { λ r. ⌜ inBytes (behindOf (now (self .exit))) ≡ inBytes (behindOf (now (self .entry))) ⌝ }
+        ensures kept { λ r. ⌜ front (length (listOf (now (self .entry)))) (inBytes (now (now (self .exit) .bytes .places))) ≡ front (length (listOf (now (self .entry)))) (inBytes (now (now (self .entry) .bytes .places))) ⌝ }
+    {
+        let number = self.count;
+        self.bytes.put_node(NODE_BYTES * number, &node);
+        self.count = number + 1;
+        number
+    }
+
+    // Keeps the first n records, and all of them if there are no more.
+    fn keep(&mut self, n: usize)
+        ensures list { λ r. ⌜ listOf (now (self .exit)) ≡ take n (listOf (now (self .entry))) ⌝ }
+        ensures fixed { λ r. ⌜ capacityOf (now (self .exit)) ≡ capacityOf (now (self .entry)) ⌝ }
+        ensures untouched { λ r. ⌜ inBytes (behindOf (now (self .exit))) ≡ inBytes (behindOf (now (self .entry))) ⌝ }
+        ensures kept { λ r. ⌜ front (length (listOf (now (self .exit)))) (inBytes (now (now (self .exit) .bytes .places))) ≡ front (length (listOf (now (self .exit)))) (inBytes (now (now (self .entry) .bytes .places))) ⌝ }
+    {
+        if n < self.count {
+            let count = self.count;
+            self.bytes.blank_out(NODE_BYTES * n, NODE_BYTES * count, 0);
+            self.count = n;
+        }
     }
 }
 
@@ -95,66 +212,38 @@ pub impl NodePool for BytePool<'_> as ByteNodes {
     ghost holds = { bytes-hold };
 
     fn count(&self) -> usize {
-        self.count // records of the list
+        self.len()
     }
 
     fn read(&self, n: usize) -> Node {
-        if n < self.count {
-            self.bytes.node(NODE_BYTES * n)
-        } else {
-            Node::blank()
-        }
+        self.bytes.record(self.count, n)
     }
 
     fn level_at(&self, n: usize) -> u8 {
-        if n < self.count {
-            self.bytes.places[NODE_BYTES * n]
-        } else {
-            0
-        }
+        self.bytes.level(self.count, n)
     }
 
     fn mask_at(&self, n: usize) -> u8 {
-        if n < self.count {
-            self.bytes.places[NODE_BYTES * n + 1]
-        } else {
-            0
-        }
+        self.bytes.mask(self.count, n)
     }
 
     fn link_at(&self, n: usize, i: usize) -> u16 {
-        if n < self.count && i < CHILDREN {
-            self.bytes
-                .number(NODE_BYTES * n + LINKS_AT + LINK_BYTES * i, LINK_BYTES) as u16
-        } else {
-            0
-        }
+        self.bytes.link(self.count, n, i)
     }
 
     fn offset_at(&self, n: usize, i: usize) -> u32 {
-        if n < self.count && i < CHILDREN {
-            self.bytes.number(NODE_BYTES * n + OFFSETS_AT + OFFSET_BYTES * i, OFFSET_BYTES)
-        } else {
-            0
-        }
+        self.bytes.offset(self.count, n, i)
     }
 
     fn add(&mut self, node: Node) -> Result<usize, Refusal> {
-        let number = self.count;
-        if number < (self.bytes.places.len() / NODE_BYTES).min(MOST_NODES) {
-            self.bytes.put_node(NODE_BYTES * number, &node);
-            self.count = number + 1;
-            Ok(number)
-        } else {
+        if self.is_full() {
             Err(Refusal::PoolFull)
+        } else {
+            Ok(self.push(node))
         }
     }
 
     fn cut(&mut self, n: usize) {
-        if n < self.count {
-            let count = self.count;
-            self.bytes.blank_out(NODE_BYTES * n, NODE_BYTES * count, 0);
-            self.count = n;
-        }
+        self.keep(n);
     }
 }
