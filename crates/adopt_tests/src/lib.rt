@@ -1,4 +1,7 @@
 // Tests of adopt that run: halls of one level, damaged lists held to a fresh seal, and lists that mark many cells.
+
+#![tactic(auto)]
+
 #[cfg(test)]
 mod damage;
 #[cfg(test)]

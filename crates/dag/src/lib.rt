@@ -1,5 +1,8 @@
 // The sealed list of node records that a set of cells has. The definitions and the laws stand in specs/;
 // the functions here do nothing, and are proved only if the laws are.
+
+#![tactic(auto)]
+
 ghost use Rattle.dag.specs.Laws.{KeepsRules, NoneTwice, MarksCells, RanksCells, Grows, Ends, Depends, NoneFromNone};
 ghost use Rattle.dag.specs.Fewest.{FewestRecords, OneListPerSet};
 ghost use Rattle.dag.specs.Delivered.{MarkedSet, SealsMarked};

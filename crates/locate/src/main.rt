@@ -1,4 +1,7 @@
 // Tells where in the hall cells and codes lie: reads a file from standard input and prints a report.
+
+#![tactic(auto)]
+
 mod line;
 mod report;
 #[cfg(test)]

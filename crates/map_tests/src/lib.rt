@@ -1,4 +1,7 @@
 // Tests of the map that run: edges of the calls, and maps held to a plain full grid.
+
+#![tactic(auto)]
+
 #[cfg(test)]
 mod edges;
 #[cfg(test)]

@@ -1,4 +1,7 @@
 // Node records, and the pools that hold them in lent memory.
+
+#![tactic(auto)]
+
 pub mod byte_pool;
 pub mod format;
 mod memory;

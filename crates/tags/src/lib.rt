@@ -1,4 +1,7 @@
 // Tags of cells: the kinds of tags, and the stores that keep their words.
+
+#![tactic(auto)]
+
 pub mod flat;
 pub mod kind;
 pub mod label;

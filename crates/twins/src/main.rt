@@ -1,5 +1,8 @@
 // Two maps of one hall, the one over records with speed limits and the other over bytes with loads.
 // Tags have no part in a node list, so both maps have the same one.
+
+#![tactic(auto)]
+
 mod compare;
 mod fill;
 mod show;

@@ -1,4 +1,7 @@
 // The map of a hall: open, place, seal and look.
+
+#![tactic(auto)]
+
 pub mod cases;
 mod close;
 pub mod found;

@@ -7,8 +7,8 @@ use Rattle.cells.proofs.hall.coordinate.Goals as goal
 pub loop-j-init : goal.loop-j-init
 loop-j-init c = sym (digits_none 2 (λ j. bit (3 * j + c.args.first) c.args.code))
 
-pub overflow-add-value-in-loop-j : goal.overflow-add-value-in-loop-j
-overflow-add-value-in-loop-j c =
+pub overflow_add-value-in-loop-j : goal.overflow_add-value-in-loop-j
+overflow_add-value-in-loop-j c =
     rw (c.loop-j.invariant, axis_more c.loop-j.j c.args.first c.args.code (omega arith))
     (omega (arith, axis_fits (c.loop-j.j + 1) c.args.first c.args.code (omega arith)))
 

@@ -13,5 +13,5 @@ returns c =
       value = sym e;
       inside = subst (λ d. cell_fits L d ≡ true) e (cell_fits_back L (cell_at L n) (axis_below L 0 n) (axis_below L 1 n) (axis_below L 2 n));
       back = λ l. subst (λ d. code_of L d ≡ n) e (cell_back L n l);
-      sub-cubes = in_sub_cubes n;
+      sub_cubes = in_sub_cubes n;
     }

@@ -8,8 +8,8 @@ use Rattle.cells.proofs.hall.interleave.Goals as goal
 pub loop-j-init : goal.loop-j-init
 loop-j-init c = sym (digits_none 8 (code_digit (record { x = c.args.x; y = c.args.y; z = c.args.z })))
 
-pub overflow-add-code : goal.overflow-add-code
-overflow-add-code c =
+pub overflow_add-code : goal.overflow_add-code
+overflow_add-code c =
     let d : Cell = record { x = c.args.x; y = c.args.y; z = c.args.z } in
     rw (c.loop-j.invariant, code_more c.loop-j.j d (omega arith)) (omega (arith, code_fits (c.loop-j.j + 1) d (omega arith)))
 

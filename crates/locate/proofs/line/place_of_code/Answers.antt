@@ -7,9 +7,9 @@ use Rattle.cells.proofs.Codes.{volume_most}
 use Rattle.locate.specs.Lines.{with_number, code_place}
 use Rattle.locate.proofs.line.place_of_code.Goals as goal
 
-pub returns-in-default-try-from : goal.returns-in-default-try-from
-returns-in-default-try-from c =
+pub returns-in_default-try_from : goal.returns-in_default-try_from
+returns-in_default-try_from c =
     let L = c.args.levels in
-    let p : levels_fit L ≡ true = not-false _ (passed _ 1 (gives tt) tt c.in-ok-check-levels.ensures).0 in
-    let far : 8 ^ L ≤ c.in-Some.number = omega (arith, volume_most L p, c.in-default-try-from.ensures) in
+    let p : levels_fit L ≡ true = not-false _ (passed _ 1 (gives tt) tt c.in_ok-check_levels.ensures).0 in
+    let far : 8 ^ L ≤ c.in-Some.number = omega (arith, volume_most L p, c.in_default-try_from.ensures) in
     sym (stops _ 3 _ (le-leb _ _ far)) ∙ sym (goes_on _ 1 _ p) ∙ ap (λ o. with_number o (code_place L)) c.in-Some.ensures

@@ -16,11 +16,11 @@ pub returns : goal.returns
 returns c =
     record {
       value = reads_all 2 c.loop-i.i c.args.bytes.now c.loop-i.links (omega arith) c.loop-i.invariant.0 c.loop-i.invariant.1;
-      each = all_bytes c.args.bytes.now c.type-inv.bytes;
+      each = all_bytes c.args.bytes.now c.type_inv.bytes;
     }
 
-pub overflow-cast-links : goal.overflow-cast-links
-overflow-cast-links c =
+pub overflow_cast-links : goal.overflow_cast-links
+overflow_cast-links c =
     let a = 2 * c.loop-i.i in
     let v = value_under (take (a + 2 - a) (drop a c.args.bytes.now)) 2 (omega (arith, part_long c.args.bytes.now a (a + 2 - a) 2 (omega arith) (omega arith))) c.number.ensures.each in
     search rules

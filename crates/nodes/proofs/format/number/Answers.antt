@@ -6,13 +6,13 @@ use Rattle.nodes.proofs.format.number.Goals as goal
 pub loop-k-init : goal.loop-k-init
 loop-k-init c = value_none c.args.bytes.now
 
-pub overflow-mul-n : goal.overflow-mul-n
-overflow-mul-n c =
+pub overflow_mul-n : goal.overflow_mul-n
+overflow_mul-n c =
     let v : value_of (drop c.loop-k.k c.args.bytes.now) < 256 ^ 3 = value_under _ 3 (simp length-drop (omega arith)) c.loop-k.invariant.1 in
     search rules
 
-pub overflow-add-n : goal.overflow-add-n
-overflow-add-n c =
+pub overflow_add-n : goal.overflow_add-n
+overflow_add-n c =
     let v : value_of (drop c.loop-k.k c.args.bytes.now) < 256 ^ 3 = value_under _ 3 (simp length-drop (omega arith)) c.loop-k.invariant.1 in
     search rules
 

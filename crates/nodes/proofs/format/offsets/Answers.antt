@@ -16,5 +16,5 @@ pub returns : goal.returns
 returns c =
     record {
       value = reads_all 4 c.loop-i.i c.args.bytes.now c.loop-i.offsets (omega arith) c.loop-i.invariant.0 c.loop-i.invariant.1;
-      each = all_bytes c.args.bytes.now c.type-inv.bytes;
+      each = all_bytes c.args.bytes.now c.type_inv.bytes;
     }

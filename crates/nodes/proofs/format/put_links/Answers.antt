@@ -8,8 +8,8 @@ pub loop-i-preserved : goal.loop-i-preserved
 loop-i-preserved c =
     let n = c.from.result in
     let a = 2 * c.loop-i.i in
-    writes_more 2 c.loop-i.i n a (a + 2 - a) c.loop-i.bytes c.put-number.new.bytes c.args.links.now (omega arith) (search rules) (search rules) (omega arith) (omega arith)
-    (c.put-number.ensures ∙ ap (λ k. bytes_of k n) (part_long c.loop-i.bytes a (a + 2 - a) 2 (omega arith) (omega arith)))
+    writes_more 2 c.loop-i.i n a (a + 2 - a) c.loop-i.bytes c.put_number.new.bytes c.args.links.now (omega arith) (search rules) (search rules) (omega arith) (omega arith)
+    (c.put_number.ensures ∙ ap (λ k. bytes_of k n) (part_long c.loop-i.bytes a (a + 2 - a) 2 (omega arith) (omega arith)))
     c.loop-i.invariant
 
 pub returns : goal.returns

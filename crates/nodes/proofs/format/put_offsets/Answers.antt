@@ -8,8 +8,8 @@ pub loop-i-preserved : goal.loop-i-preserved
 loop-i-preserved c =
     let n = get_or c.args.offsets.now c.loop-i.i 0 in
     let a = 4 * c.loop-i.i in
-    writes_more 4 c.loop-i.i n a (a + 4 - a) c.loop-i.bytes c.put-number.new.bytes c.args.offsets.now (omega arith) (search rules) (search rules) (omega arith) (omega arith)
-    (c.put-number.ensures ∙ ap (λ k. bytes_of k n) (part_long c.loop-i.bytes a (a + 4 - a) 4 (omega arith) (omega arith)))
+    writes_more 4 c.loop-i.i n a (a + 4 - a) c.loop-i.bytes c.put_number.new.bytes c.args.offsets.now (omega arith) (search rules) (search rules) (omega arith) (omega arith)
+    (c.put_number.ensures ∙ ap (λ k. bytes_of k n) (part_long c.loop-i.bytes a (a + 4 - a) 4 (omega arith) (omega arith)))
     c.loop-i.invariant
 
 pub returns : goal.returns

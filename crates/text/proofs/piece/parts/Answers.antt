@@ -5,20 +5,20 @@ use Rattle.cells.proofs.Places.{nth_inside}
 use Rattle.text.proofs.Cuts.{pieces_cut}
 use Rattle.text.proofs.piece.parts.Goals as goal
 
-pub slice-bounds-result-end : goal.slice-bounds-result-end
-slice-bounds-result-end c =
+pub slice_bounds-result-end : goal.slice_bounds-result-end
+slice_bounds-result-end c =
     let h = nth_inside c.args.bytes.now c.args.n c.args.separator c.requires.0 in search rules
 
-pub overflow-add-result : goal.overflow-add-result
-overflow-add-result c =
+pub overflow_add-result : goal.overflow_add-result
+overflow_add-result c =
     let h = nth_inside c.args.bytes.now c.args.n c.args.separator c.requires.0 in search rules
 
-pub slice-bounds-result-count-2 : goal.slice-bounds-result-count-2
-slice-bounds-result-count-2 c =
+pub slice_bounds-result-count-2 : goal.slice_bounds-result-count-2
+slice_bounds-result-count-2 c =
     let h = nth_inside c.args.bytes.now c.args.n c.args.separator c.requires.0 in search rules
 
-pub slice-bounds-result-start-2 : goal.slice-bounds-result-start-2
-slice-bounds-result-start-2 c =
+pub slice_bounds-result-start-2 : goal.slice_bounds-result-start-2
+slice_bounds-result-start-2 c =
     let h = nth_inside c.args.bytes.now c.args.n c.args.separator c.requires.0 in search rules
 
 pub returns : goal.returns

@@ -20,11 +20,11 @@ returns-then-together g c =
           (λ b. c.together.ensures.0 c.if-together.true) (inv.5 cells at);
     }
 
-pub returns-in-err-close-level : goal.returns-in-err-close-level
-returns-in-err-close-level g c =
+pub returns-in_err-close_level : goal.returns-in_err-close_level
+returns-in_err-close_level g c =
     let p = err_from_is_err_and c.from-residual.result c.from-residual.ensures.1 in
     let inv = c.loop-r.invariant in
-    let told = c.in-err-close-level.ensures in
+    let told = c.in_err-close_level.ensures in
     let long = begins_length _ _ inv.1 in
     rw (p.1, p.2)
     record {
@@ -45,7 +45,7 @@ returns-in-err-close-level g c =
 pub loop-r-preserved : goal.loop-r-preserved
 loop-r-preserved g c =
     let inv = c.loop-r.invariant in
-    let told = c.in-ok-close-level.ensures in
+    let told = c.in_ok-close_level.ensures in
     let long = begins_length _ _ inv.1 in (
       (λ e. differ c.together.result c.if-together.false (c.together.ensures.1 e)),
       begins_trans _ _ _ inv.1 told.list,

@@ -9,44 +9,44 @@ use Rattle.dag.specs.Walk.{root}
 use Rattle.voxels.proofs.Verdicts.{root_countable, not_each, not_root, not_order, no_records, passed}
 use Rattle.voxels.proofs.judge.cells_of.Goals as goal
 
-pub returns-then-not-all-fit : goal.returns-then-not-all-fit
-returns-then-not-all-fit g c =
+pub returns-then-not-all_fit : goal.returns-then-not-all_fit
+returns-then-not-all_fit g c =
     let pool = c.args.pool.now in
     let ns = g.P.NodePool.nodes pool in
     let few : length ns ≤ none = omega (arith, g.P.NodePool.within pool, g.P.NodePool.bounded pool) in
-    not_each c.args.levels ns c.requires.0 few (λ p. both_ways _ c.if-not-all-fit.true (c.all-fit.ensures.1 p))
+    not_each c.args.levels ns c.requires.0 few (λ p. both_ways _ c.if-not-all_fit.true (c.all_fit.ensures.1 p))
 
 pub returns-then-count-eq0 : goal.returns-then-count-eq0
 returns-then-count-eq0 g c =
     let pool = c.args.pool.now in
     let ns = g.P.NodePool.nodes pool in
     let few : length ns ≤ none = omega (arith, g.P.NodePool.within pool, g.P.NodePool.bounded pool) in
-    no_records c.args.levels ns c.requires.0 few (sym c.count-count.ensures ∙ c.if-count-eq0.true) (c.all-fit.ensures.0 c.if-not-all-fit.false)
+    no_records c.args.levels ns c.requires.0 few (sym c.count-count.ensures ∙ c.if-count-eq0.true) (c.all_fit.ensures.0 c.if-not-all_fit.false)
 
-pub returns-then-not-is-root : goal.returns-then-not-is-root
-returns-then-not-is-root g c =
+pub returns-then-not-is_root : goal.returns-then-not-is_root
+returns-then-not-is_root g c =
     let pool = c.args.pool.now in
     let ns = g.P.NodePool.nodes pool in
     let few : length ns ≤ none = omega (arith, g.P.NodePool.within pool, g.P.NodePool.bounded pool) in
     let last : c.count-count.result - 1 ≡ root ns = ap (λ m. m - 1) c.count-count.ensures in
     not_root c.args.levels ns c.requires.0 few (omega arith)
-    (λ e. both_ways _ c.if-not-is-root.true (c.is-root.ensures.1 (ap (λ m. (node_at ns m).level) last ∙ e)))
+    (λ e. both_ways _ c.if-not-is_root.true (c.is_root.ensures.1 (ap (λ m. (node_at ns m).level) last ∙ e)))
 
-pub returns-in-err--all : goal.returns-in-err--all
-returns-in-err--all g c =
+pub returns-in_err--all : goal.returns-in_err--all
+returns-in_err--all g c =
     let pool = c.args.pool.now in
     let ns = g.P.NodePool.nodes pool in
     let few : length ns ≤ none = omega (arith, g.P.NodePool.within pool, g.P.NodePool.bounded pool) in
     let last : c.count-count.result - 1 ≡ root ns = ap (λ m. m - 1) c.count-count.ensures in
     rw c.from-residual.ensures
-    (not_order c.args.levels ns c.requires.0 few (omega arith) (subst (λ m. length ns < meet ns c.args.levels m 0) last c.in-err--all.ensures))
+    (not_order c.args.levels ns c.requires.0 few (omega arith) (subst (λ m. length ns < meet ns c.args.levels m 0) last c.in_err--all.ensures))
 
-pub size-of-requires : goal.size-of-requires
-size-of-requires g c =
+pub size_of-requires : goal.size_of-requires
+size_of-requires g c =
     let ns = g.P.NodePool.nodes c.args.pool.now in
     let last : c.count-count.result - 1 ≡ root ns = ap (λ m. m - 1) c.count-count.ensures in
-    let level : (node_at ns (root ns)).level ≡ c.args.levels = ap (λ m. (node_at ns m).level) (sym last) ∙ c.is-root.ensures.0 c.if-not-is-root.false in
-    (c.requires.1, subst (Countable ns c.args.levels) (sym last) (root_countable c.args.levels ns c.requires.0 (omega arith) (c.all-fit.ensures.0 c.if-not-all-fit.false) level))
+    let level : (node_at ns (root ns)).level ≡ c.args.levels = ap (λ m. (node_at ns m).level) (sym last) ∙ c.is_root.ensures.0 c.if-not-is_root.false in
+    (c.requires.1, subst (Countable ns c.args.levels) (sym last) (root_countable c.args.levels ns c.requires.0 (omega arith) (c.all_fit.ensures.0 c.if-not-all_fit.false) level))
 
 pub returns : goal.returns
 returns g c =
@@ -54,8 +54,8 @@ returns g c =
     let ns = g.P.NodePool.nodes pool in
     let few : length ns ≤ none = omega (arith, g.P.NodePool.within pool, g.P.NodePool.bounded pool) in
     let last : c.count-count.result - 1 ≡ root ns = ap (λ m. m - 1) c.count-count.ensures in
-    let level : (node_at ns (root ns)).level ≡ c.args.levels = ap (λ m. (node_at ns m).level) (sym last) ∙ c.is-root.ensures.0 c.if-not-is-root.false in
-    let met = c.in-ok--all.ensures in
-    let p = passed c.args.levels ns c.requires.0 few (omega arith) (c.all-fit.ensures.0 c.if-not-all-fit.false) level
+    let level : (node_at ns (root ns)).level ≡ c.args.levels = ap (λ m. (node_at ns m).level) (sym last) ∙ c.is_root.ensures.0 c.if-not-is_root.false in
+    let met = c.in_ok--all.ensures in
+    let p = passed c.args.levels ns c.requires.0 few (omega arith) (c.all_fit.ensures.0 c.if-not-all_fit.false) level
     (subst (λ m. meet ns c.args.levels m 0 ≤ length ns) last (subst (λ x. x ≤ length ns) met.0 met.1)) in
-    (p.0, c.size-of.ensures.is ∙ ap (size ns c.args.levels) last ∙ p.1)
+    (p.0, c.size_of.ensures.is ∙ ap (size ns c.args.levels) last ∙ p.1)

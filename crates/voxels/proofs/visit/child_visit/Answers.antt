@@ -11,7 +11,7 @@ returns-then-not-meets g c =
     record {
       ready = tt;
       visits = λ L s v. child_beside L ns c.args.bounds.now s c.args.i (c.args.visit.level - 1) c.args.visit c.requires.child k v
-          (ap (box_holds (shrunk_box (c.args.visit.level - 1) c.args.bounds.now)) (sym c.child-place-at.ensures) ∙ sym c.meets.ensures ∙ c.if-not-meets.true);
+          (ap (box_holds (shrunk_box (c.args.visit.level - 1) c.args.bounds.now)) (sym c.child_place-at.ensures) ∙ sym c.meets.ensures ∙ c.if-not-meets.true);
     }
 
 pub returns-in-None : goal.returns-in-None
@@ -28,10 +28,10 @@ returns-in-Some g c =
     let ns = g.P.NodePool.nodes c.args.pool.now in
     let k : c.args.visit.level ≡ suc (c.args.visit.level - 1) = omega (arith, c.requires.above) in
     let goes = c.in-Some.ensures in
-    let met : box_holds (shrunk_box (c.args.visit.level - 1) c.args.bounds.now) c.child-place-at.result ≡ true = sym c.meets.ensures ∙ c.if-not-meets.false in
+    let met : box_holds (shrunk_box (c.args.visit.level - 1) c.args.bounds.now) c.child_place-at.result ≡ true = sym c.meets.ensures ∙ c.if-not-meets.false in
     record {
-      ready = (record { level = omega (arith, c.requires.ready.level); node = goes.inside; rank = omega (arith, c.requires.ready.rank, goes.small, c.from.ensures); near = near_met (c.args.visit.level - 1) c.args.bounds.now c.child-place-at.result c.requires.near met }, omega (arith, c.requires.above));
-      visits = λ L s v. child_visits L ns c.args.bounds.now s c.args.i (c.args.visit.level - 1) c.args.visit c.requires.child k v _ refl c.child-place-at.ensures
-          (subst (λ p. box_holds (shrunk_box (c.args.visit.level - 1) c.args.bounds.now) p ≡ true) c.child-place-at.ensures met)
+      ready = (record { level = omega (arith, c.requires.ready.level); node = goes.inside; rank = omega (arith, c.requires.ready.rank, goes.small, c.from.ensures); near = near_met (c.args.visit.level - 1) c.args.bounds.now c.child_place-at.result c.requires.near met }, omega (arith, c.requires.above));
+      visits = λ L s v. child_visits L ns c.args.bounds.now s c.args.i (c.args.visit.level - 1) c.args.visit c.requires.child k v _ refl c.child_place-at.ensures
+          (subst (λ p. box_holds (shrunk_box (c.args.visit.level - 1) c.args.bounds.now) p ≡ true) c.child_place-at.ensures met)
           c.in-Some.taken.offset (ap (λ n. c.args.visit.rank + n) c.from.ensures) goes;
     }

@@ -4,38 +4,38 @@ use Rattle.voxels.specs.Finds.{Goes}
 use Rattle.voxels.proofs.WalkSteps.{shut, at_cell, late, other_level, goes_on}
 use Rattle.voxels.proofs.walk.step.Goals as goal
 
-pub returns-then-mask-at-i-eq0 : goal.returns-then-mask-at-i-eq0
-returns-then-mask-at-i-eq0 g c =
+pub returns-then-mask_at-i-eq0 : goal.returns-then-mask_at-i-eq0
+returns-then-mask_at-i-eq0 g c =
     shut (g.P.NodePool.nodes c.args.pool.now) c.args.k c.args.n c.args.i
-    (ap (λ m. m / 2 ^ c.args.i % 2) (sym c.mask-at.ensures) ∙ c.if-mask-at-i-eq0.true)
+    (ap (λ m. m / 2 ^ c.args.i % 2) (sym c.mask_at.ensures) ∙ c.if-mask_at-i-eq0.true)
 
 pub returns-then-k-eq0 : goal.returns-then-k-eq0
 returns-then-k-eq0 g c =
     let ns = g.P.NodePool.nodes c.args.pool.now in
-    let e = sym c.offset-at-offset.ensures in
+    let e = sym c.offset_at-offset.ensures in
     subst (Goes ns c.args.k c.args.n c.args.i c.args.n) e
     (at_cell ns c.args.k c.args.n c.args.i c.if-k-eq0.true
-    (λ z. c.if-mask-at-i-eq0.false (ap (λ m. m / 2 ^ c.args.i % 2) c.mask-at.ensures ∙ z)) c.requires.1.0
-    (subst (λ o. o < 2 ^ 32) (sym e) c.offset-at-offset.type-inv))
+    (λ z. c.if-mask_at-i-eq0.false (ap (λ m. m / 2 ^ c.args.i % 2) c.mask_at.ensures ∙ z)) c.requires.1.0
+    (subst (λ o. o < 2 ^ 32) (sym e) c.offset_at-offset.type_inv))
 
 pub returns-then-next-n : goal.returns-then-next-n
 returns-then-next-n g c =
     late (g.P.NodePool.nodes c.args.pool.now) c.args.k c.args.n c.args.i (omega arith)
-    c.link-at-next.result c.link-at-next.ensures c.if-next-n.true
+    c.link_at-next.result c.link_at-next.ensures c.if-next-n.true
 
 pub returns-then-from-k : goal.returns-then-from-k
 returns-then-from-k g c =
     other_level (g.P.NodePool.nodes c.args.pool.now) c.args.k c.args.n c.args.i (omega arith)
-    c.link-at-next.result c.link-at-next.ensures
+    c.link_at-next.result c.link_at-next.ensures
     (λ z. c.if-from-k.true (c.from.ensures ∙ c.level_at.ensures ∙ z))
 
 pub returns : goal.returns
 returns g c =
     let ns = g.P.NodePool.nodes c.args.pool.now in
-    let e = sym c.offset-at-offset.ensures in
+    let e = sym c.offset_at-offset.ensures in
     let few : length ns ≤ none = omega (arith, g.P.NodePool.within c.args.pool.now, g.P.NodePool.bounded c.args.pool.now) in
-    subst (Goes ns c.args.k c.args.n c.args.i c.link-at-next.result) e
-    (goes_on ns c.args.k c.args.n c.args.i (omega arith) c.link-at-next.result c.link-at-next.ensures
-    (λ z. c.if-mask-at-i-eq0.false (ap (λ m. m / 2 ^ c.args.i % 2) c.mask-at.ensures ∙ z))
+    subst (Goes ns c.args.k c.args.n c.args.i c.link_at-next.result) e
+    (goes_on ns c.args.k c.args.n c.args.i (omega arith) c.link_at-next.result c.link_at-next.ensures
+    (λ z. c.if-mask_at-i-eq0.false (ap (λ m. m / 2 ^ c.args.i % 2) c.mask_at.ensures ∙ z))
     c.if-next-n.false c.requires.1.0 few (sym c.level_at.ensures ∙ sym c.from.ensures ∙ c.if-from-k.false)
-    (subst (λ o. o < 2 ^ 32) (sym e) c.offset-at-offset.type-inv))
+    (subst (λ o. o < 2 ^ 32) (sym e) c.offset_at-offset.type_inv))

@@ -13,13 +13,13 @@ loop-n-preserved g c =
     let n = c.loop-n.n in
     let lt : n < length ns = omega (arith, c.count-n-end.ensures) in
     let node = c.read.ensures in
-    let long : length c.to-bytes-bytes.result ≡ 50 = search rules in
-    let value = c.to-bytes-bytes.ensures.value in
-    let part : c.copy-from-slice.new.self ≡ written (get_or ns n blank) = c.copy-from-slice.ensures.after ∙ value ∙ ap written node in
-    let size : length c.copy-from-slice.new.self ≡ 50 = ap length c.copy-from-slice.ensures.after ∙ long in (
-      front_more written node_bytes ns c.args.buffer.now n (50 * n) (50 * n + 50 - 50 * n) c.loop-n.buffer c.copy-from-slice.new.self blank lt refl (omega arith) (omega arith) part size c.loop-n.invariant.0,
+    let long : length c.to_bytes-bytes.result ≡ 50 = search rules in
+    let value = c.to_bytes-bytes.ensures.value in
+    let part : c.copy_from_slice.new.self ≡ written (get_or ns n blank) = c.copy_from_slice.ensures.after ∙ value ∙ ap written node in
+    let size : length c.copy_from_slice.new.self ≡ 50 = ap length c.copy_from_slice.ensures.after ∙ long in (
+      front_more written node_bytes ns c.args.buffer.now n (50 * n) (50 * n + 50 - 50 * n) c.loop-n.buffer c.copy_from_slice.new.self blank lt refl (omega arith) (omega arith) part size c.loop-n.invariant.0,
       subst (All Back) (sym (take_more ns n blank lt))
-          (All-push Back (take n ns) (get_or ns n blank) c.loop-n.invariant.1 (ap length (sym part) ∙ size, subst (λ x. read_node (written x) ≡ x) node (ap read_node (sym value) ∙ c.to-bytes-bytes.ensures.back))),
+          (All-push Back (take n ns) (get_or ns n blank) c.loop-n.invariant.1 (ap length (sym part) ∙ size, subst (λ x. read_node (written x) ≡ x) node (ap read_node (sym value) ∙ c.to_bytes-bytes.ensures.back))),
     )
 
 pub returns : goal.returns

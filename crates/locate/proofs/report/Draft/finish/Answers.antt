@@ -7,13 +7,13 @@ pub returns : goal.returns
 returns c =
     subst (λ bs. IfOk c.close-2.result (λ s. string_bytes s ≡ bs))
     (end_noted c.args.self c.note.new.self c.args.last.now
-    (omega (arith, eqb-false _ _ (sym c.if-is-empty.ensures))) c.in-ok-note.ensures)
+    (omega (arith, eqb-false _ _ (sym c.if-is_empty.ensures))) c.in_ok-note.ensures)
     c.close-2.ensures
 
-pub returns-then-is-empty : goal.returns-then-is-empty
-returns-then-is-empty c =
+pub returns-then-is_empty : goal.returns-then-is_empty
+returns-then-is_empty c =
     subst (λ bs. IfOk c.close.result (λ s. string_bytes s ≡ bs))
     (ap (λ t. string_bytes c.args.self.text ++ t)
     (end_none c.args.self.line c.args.self.located c.args.self.refused c.args.last.now
-    (eqb-true _ _ (sym c.if-is-empty.ensures))))
+    (eqb-true _ _ (sym c.if-is_empty.ensures))))
     c.close.ensures

@@ -5,15 +5,15 @@ use Rattle.nodes.proofs.ByteCalls.{bytes_made, room}
 use Rattle.nodes.proofs.ByteRecords.{nodes_none}
 use Rattle.nodes.proofs.byte_pool.BytePool.with_count.Goals as goal
 
-pub invariant-of-result : goal.invariant-of-result
-invariant-of-result c =
-    let h = bytes_made c.args.bytes.now c.blank-out.new.self.places.now c.args.count c.min-capacity.result (search rules) (search rules) (search rules) in
-    (h.within, (h.order, tt))
+pub invariant_of-result : goal.invariant_of-result
+invariant_of-result c =
+    let h = bytes_made c.args.bytes.now c.blank_out.new.self.places.now c.args.count c.min-capacity.result (search rules) (search rules) (search rules) in
+    record { within = h.within; blanks = h.order }
 
 pub returns : goal.returns
 returns c =
     let m = c.args.bytes.now in
-    let m' = c.blank-out.new.self.places.now in
+    let m' = c.blank_out.new.self.places.now in
     let h = bytes_made m m' c.args.count c.min-capacity.result (search rules) (search rules) (search rules) in
     record {
       list = h.list_is;

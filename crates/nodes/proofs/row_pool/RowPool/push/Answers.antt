@@ -4,10 +4,10 @@ use Rattle.nodes.proofs.Memories.{rows_kept}
 use Rattle.nodes.proofs.Rows.{rows_added}
 use Rattle.nodes.proofs.row_pool.RowPool.push.Goals as goal
 
-pub invariant-of-self : goal.invariant-of-self
-invariant-of-self c =
+pub invariant_of-self : goal.invariant_of-self
+invariant_of-self c =
     let h = rows_added c.args.self.now.rows.places.now _ c.args.node c.args.self.now.count _ refl (search rules) (search rules) refl in
-    (h.within, (h.order, tt))
+    record { within = h.within; blanks = h.order }
 
 pub returns : goal.returns
 returns c =

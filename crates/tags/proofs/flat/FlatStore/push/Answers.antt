@@ -11,8 +11,8 @@ returns-then-self c =
     let full = flat_full s.numbers.now s.count s.fits c.args.word (inl (omega arith)) in
     record { answer = answer_refused _ full; words = sym (cond-false _ _ _ full); rule = refl }
 
-pub returns-then-self-ge-MOST-WORDS : goal.returns-then-self-ge-MOST-WORDS
-returns-then-self-ge-MOST-WORDS c =
+pub returns-then-self-ge-MOST_WORDS : goal.returns-then-self-ge-MOST_WORDS
+returns-then-self-ge-MOST_WORDS c =
     let s = c.args.self.now in
     let full = flat_full s.numbers.now s.count s.fits c.args.word (inr (omega arith)) in
     record { answer = answer_refused _ full; words = sym (cond-false _ _ _ full); rule = refl }

@@ -5,8 +5,8 @@ use Rattle.tags.proofs.Takes.{answer_accepted, answer_refused}
 use Rattle.tags.proofs.PaletteTakes.{no_room, add_none, add_took}
 use Rattle.tags.proofs.palette.PaletteStore.push.Goals as goal
 
-pub returns-then-self-ge-MOST-WORDS : goal.returns-then-self-ge-MOST-WORDS
-returns-then-self-ge-MOST-WORDS c =
+pub returns-then-self-ge-MOST_WORDS : goal.returns-then-self-ge-MOST_WORDS
+returns-then-self-ge-MOST_WORDS c =
     let s = c.args.self.now in
     let none = no_room s.blocks.now s.count s.fits s.tidy c.args.word (inl (omega arith)) in
     record { answer = answer_refused _ none; words = sym (cond-false _ _ _ none); rule = refl }
@@ -23,11 +23,11 @@ returns-then-not-put c =
     let none = add_none s.blocks.now s.count s.fits s.tidy c.args.word c.index-self-k.result (omega arith) c.if-not-put.ensures.0 in
     record { answer = answer_refused _ none; words = sym (cond-false _ _ _ none); rule = refl }
 
-pub invariant-of-self : goal.invariant-of-self
-invariant-of-self c =
+pub invariant_of-self : goal.invariant_of-self
+invariant_of-self c =
     let s = c.args.self.now in
     let took = add_took s.blocks.now s.count s.fits s.tidy c.args.word c.index-self-k.result c.put.new.self (omega arith) (omega arith) c.if-not-put.ensures in
-    (took.fits, (took.held, (took.tidy, tt)))
+    record { fits = took.fits; held = took.held; tidy = took.tidy }
 
 pub returns : goal.returns
 returns c =

@@ -17,11 +17,11 @@ returns-then-not-put c =
     let none = change_none s.blocks.now s.count s.fits s.tidy c.args.word c.args.n c.index-self-k.result c.min-used.result (omega arith) c.min-used.ensures c.if-not-put.ensures.0 in
     record { answer = answer_refused _ none; words = sym (cond-false _ _ _ none); rule = refl }
 
-pub invariant-of-self : goal.invariant-of-self
-invariant-of-self c =
+pub invariant_of-self : goal.invariant_of-self
+invariant_of-self c =
     let s = c.args.self.now in
     let took = change_took s.blocks.now s.count s.fits s.tidy c.args.word c.args.n c.index-self-k.result c.put.new.self c.min-used.result (omega arith) c.min-used.ensures c.if-not-put.ensures in
-    (took.fits, (took.held, (took.tidy, tt)))
+    record { fits = took.fits; held = took.held; tidy = took.tidy }
 
 pub returns : goal.returns
 returns c =

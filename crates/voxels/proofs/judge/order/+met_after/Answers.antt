@@ -20,13 +20,13 @@ returns-then-n-before g t c =
 pub loop-i-init : goal.loop-i-init
 loop-i-init g t c = (sym (kids_none (g.P.NodePool.nodes c.args.pool.now) (c.args.k - 1) c.args.n c.args.before), c.requires.1.1)
 
-pub met-after-requires : goal.met-after-requires
-met-after-requires g t c κs within =
+pub met_after-requires : goal.met_after-requires
+met_after-requires g t c κs within =
     let ns = g.P.NodePool.nodes c.args.pool.now in
     let n = c.args.n in
     let i = c.loop-i.i in
-    let set : has_child (node_at ns n) i ≡ true = ap (λ m. eqb (bit i m) 1) (sym c.mask-at.ensures) ∙ sym c.has-child.ensures ∙ c.if-has-child.true in
-    let link : link_of (node_at ns n) i ≡ c.from.result = sym (c.from.ensures ∙ c.link-at.ensures) in (
+    let set : has_child (node_at ns n) i ≡ true = ap (λ m. eqb (bit i m) 1) (sym c.mask_at.ensures) ∙ sym c.has_child.ensures ∙ c.if-has_child.true in
+    let link : link_of (node_at ns n) i ≡ c.from.result = sym (c.from.ensures ∙ c.link_at.ensures) in (
       omega arith,
       (
         within,
@@ -37,16 +37,16 @@ met-after-requires g t c κs within =
       ),
     )
 
-pub returns-in-err-met : goal.returns-in-err-met
-returns-in-err-met g t c =
+pub returns-in_err-met : goal.returns-in_err-met
+returns-in_err-met g t c =
     let ns = g.P.NodePool.nodes c.args.pool.now in
     let n = c.args.n in
     let i = c.loop-i.i in
     let q = c.args.k - 1 in
-    let set : has_child (node_at ns n) i ≡ true = ap (λ m. eqb (bit i m) 1) (sym c.mask-at.ensures) ∙ sym c.has-child.ensures ∙ c.if-has-child.true in
-    let link : c.from.result ≡ link_of (node_at ns n) i = c.from.ensures ∙ c.link-at.ensures in
+    let set : has_child (node_at ns n) i ≡ true = ap (λ m. eqb (bit i m) 1) (sym c.mask_at.ensures) ∙ sym c.has_child.ensures ∙ c.if-has_child.true in
+    let link : c.from.result ≡ link_of (node_at ns n) i = c.from.ensures ∙ c.link_at.ensures in
     let fail : length ns < meet ns q (link_of (node_at ns n) i) (meet_children ns q n i c.args.before) =
-    subst (λ m. length ns < meet ns q (link_of (node_at ns n) i) m) c.loop-i.invariant.0 (subst (λ l. length ns < meet ns q l c.loop-i.met) link c.in-err-met.ensures) in
+    subst (λ m. length ns < meet ns q (link_of (node_at ns n) i) m) c.loop-i.invariant.0 (subst (λ l. length ns < meet ns q l c.loop-i.met) link c.in_err-met.ensures) in
     rw c.from-residual.ensures
     (left_failed ns c.requires.0 n c.args.before c.args.k i (omega arith) c.loop-i-test.true c.if-n-before.false c.requires.1.1 c.requires.1.0 set fail)
 
@@ -56,20 +56,20 @@ loop-i-preserved g t c =
     let n = c.args.n in
     let i = c.loop-i.i in
     let q = c.args.k - 1 in
-    let bits = ap (λ m. eqb (bit i m) 1) (sym c.mask-at.ensures) ∙ sym c.has-child.ensures in
-    elim c.if-has-child.branch [
+    let bits = ap (λ m. eqb (bit i m) 1) (sym c.mask_at.ensures) ∙ sym c.has_child.ensures in
+    elim c.if-has_child.branch [
       | then-has-child+in-ok-met w ↦
-          let told = w.in-ok-met.ensures in
-          let link : w.from.result ≡ link_of (node_at ns n) i = w.from.ensures ∙ w.link-at.ensures in (
-            w.met-is ∙ told.0 ∙ ap₂ (meet ns q) link c.loop-i.invariant.0 ∙ sym (kids_there ns q n i c.args.before (bits ∙ w.if-has-child.true)),
+          let told = w.in_ok-met.ensures in
+          let link : w.from.result ≡ link_of (node_at ns n) i = w.from.ensures ∙ w.link_at.ensures in (
+            w.met-is ∙ told.0 ∙ ap₂ (meet ns q) link c.loop-i.invariant.0 ∙ sym (kids_there ns q n i c.args.before (bits ∙ w.if-has_child.true)),
             subst (λ m. m ≤ length ns) (sym w.met-is) told.1,
           )
       | else-has-child w ↦
-          (w.met-is ∙ c.loop-i.invariant.0 ∙ sym (kids_absent ns q n i c.args.before (bits ∙ w.if-has-child.false)), subst (λ m. m ≤ length ns) (sym w.met-is) c.loop-i.invariant.1)
+          (w.met-is ∙ c.loop-i.invariant.0 ∙ sym (kids_absent ns q n i c.args.before (bits ∙ w.if-has_child.false)), subst (λ m. m ≤ length ns) (sym w.met-is) c.loop-i.invariant.1)
     ]
 
-pub met-with-requires : goal.met-with-requires
-met-with-requires g t c =
+pub met_with-requires : goal.met_with-requires
+met_with-requires g t c =
     let pool = c.args.pool.now in
     let inside = here_inside (g.P.NodePool.nodes pool) c.requires.0 c.args.n c.args.before c.args.k (omega arith) c.requires.1.0 in
     omega (arith, g.P.NodePool.within pool, g.P.NodePool.bounded pool)
@@ -79,4 +79,4 @@ returns g t c =
     let ns = g.P.NodePool.nodes c.args.pool.now in
     let e : c.loop-i.i ≡ 8 = omega arith in
     left_by ns c.requires.0 c.args.k c.args.n c.args.before c.loop-i.met (omega arith) c.requires.1.0 c.if-n-before.false
-    (c.loop-i.invariant.0 ∙ ap (λ i. meet_children ns (c.args.k - 1) c.args.n i c.args.before) e) c.met-with.result c.met-with.ensures
+    (c.loop-i.invariant.0 ∙ ap (λ i. meet_children ns (c.args.k - 1) c.args.n i c.args.before) e) c.met_with.result c.met_with.ensures

@@ -10,10 +10,10 @@ loop-i-init g c =
     let ns = g.P.NodePool.nodes c.args.pool.now in
     (sym (sum_none (cells_at ns c.args.k c.args.n)), λ j l. absurd (omega arith), omega arith)
 
-pub cells-in-before-requires : goal.cells-in-before-requires
-cells-in-before-requires g c =
+pub cells_in-before-requires : goal.cells_in-before-requires
+cells_in-before-requires g c =
     let ns = g.P.NodePool.nodes c.args.pool.now in
-    let right = c.child-fits.ensures.0 c.if-not-child-fits.false in
+    let right = c.child_fits.ensures.0 c.if-not-child_fits.false in
     (c.requires.0, (c.loop-i-test.true, λ t. child_countable c.requires.1.1.0 ns c.args.k c.args.n _ c.requires.1.0 c.requires.1.1.1 (right.there t)))
 
 pub loop-i-preserved : goal.loop-i-preserved
@@ -22,8 +22,8 @@ loop-i-preserved g c =
     let i = c.loop-i.i in
     let f = cells_at ns c.args.k c.args.n in
     let inv = c.loop-i.invariant in
-    let small = c.cells-in-before.ensures.small in (
-      ap₂ (λ x y. x + y) inv.0 c.cells-in-before.ensures.is ∙ sym (sum_more f i) ∙ ap (size_before ns c.args.k c.args.n) (sym (add-one i)),
-      below_more (ChildRight ns c.args.k c.args.n) i inv.1 (c.child-fits.ensures.0 c.if-not-child-fits.false),
+    let small = c.cells_in-before.ensures.small in (
+      ap₂ (λ x y. x + y) inv.0 c.cells_in-before.ensures.is ∙ sym (sum_more f i) ∙ ap (size_before ns c.args.k c.args.n) (sym (add-one i)),
+      below_more (ChildRight ns c.args.k c.args.n) i inv.1 (c.child_fits.ensures.0 c.if-not-child_fits.false),
       omega (arith, inv.2),
     )

@@ -7,8 +7,8 @@ use Rattle.voxels.specs.Shown.{shown}
 use Rattle.voxels.proofs.Looking.{look_sealed, look_outside, look_tells, sealed_fit}
 use Rattle.voxels.proofs.map.Map.look_sealed.Goals as goal
 
-pub found-at-requires : goal.found-at-requires
-found-at-requires g c = sealed_fit c.args.self.now.plain.phase c.args.self.now.plain.levels c.requires c.args.self.now.plain.fit
+pub found_at-requires : goal.found_at-requires
+found_at-requires g c = sealed_fit c.args.self.now.plain.phase c.args.self.now.plain.levels c.requires c.args.self.now.plain.fit
 
 pub returns-in-Ok : goal.returns-in-Ok
 returns-in-Ok g c =
@@ -18,7 +18,7 @@ returns-in-Ok g c =
     let few : length ns ≤ none = omega (arith, g.P.NodePool.within m.pool, g.P.NodePool.bounded m.pool) in
     let here = shown g.P.NodePool g.S.TagStore m in
     let e = look_sealed g.K.TagKind.reading here c.args.cell
-    c.in-Ok.code c.found-at.result c.requires c.in-Ok.ensures.value c.found-at.ensures in
+    c.in-Ok.code c.found_at.result c.requires c.in-Ok.ensures.value c.found_at.ensures in
     record {
       list = e;
       tells = λ L cells tags s. e ∙ look_tells g.K.TagKind.reading g.K.TagKind.word_of g.met.K.TagKind.back L cells tags

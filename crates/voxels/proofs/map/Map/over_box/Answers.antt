@@ -16,8 +16,8 @@ returns-in-Some g c =
     over_swept g.K.TagKind.reading g.K.RankedKind.stricter m.plain.levels (g.P.NodePool.nodes m.pool) (g.S.TagStore.words m.store) c.args.bounds.now
     c.requires.levels c.in-Some.root told.ready.1 (told.visits c.args.bounds.now c.requires.low) c.sweep.new.best c.sweep.ensures
 
-pub returns-in-default : goal.returns-in-default
-returns-in-default g c =
+pub returns-in_default : goal.returns-in_default
+returns-in_default g c =
     let m = c.args.self.now in
     over_nothing g.K.TagKind.reading g.K.RankedKind.stricter m.plain.levels (g.P.NodePool.nodes m.pool) (g.S.TagStore.words m.store) c.args.bounds.now
-    (c.in-default.ensures.visits c.args.bounds.now c.requires.low)
+    (c.in_default.ensures.visits c.args.bounds.now c.requires.low)

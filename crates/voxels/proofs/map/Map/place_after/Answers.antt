@@ -10,14 +10,14 @@ use Rattle.voxels.proofs.Sealing.{open_fit, begins_at}
 use Rattle.voxels.proofs.Placed.{told_store, told_full, code_inside, later_above, later_open}
 use Rattle.voxels.proofs.map.Map.place_after.Goals as goal
 
-pub returns-in-err-rows : goal.returns-in-err-rows
-returns-in-err-rows g c =
+pub returns-in_err-rows : goal.returns-in_err-rows
+returns-in_err-rows g c =
     let p = err_from_is_err_and c.from-residual.result c.from-residual.ensures.1 in
     let m = c.args.self.now in
     let pool = g.P.NodePool in
-    let told = c.in-err-rows.ensures in
+    let told = c.in_err-rows.ensures in
     let here = shown pool g.S.TagStore m in
-    let next : Map g.row.P.Denot g.row.S.Denot g.row.K.Denot = record { pool = c.closed-rows.new.pool; store = m.store; plain = m.plain; kind = m.kind } in
+    let next : Map g.row.P.Denot g.row.S.Denot g.row.K.Denot = record { pool = c.closed_rows.new.pool; store = m.store; plain = m.plain; kind = m.kind } in
     let fixed : Fixed here (shown pool g.S.TagStore next) = record { capacity = told.fixed; behind = told.untouched; rule = refl } in
     rw (p.1, p.2)
     record {
@@ -37,10 +37,10 @@ returns g c =
     let m = c.args.self.now in
     let pool = g.P.NodePool in
     let ns = pool.nodes m.pool in
-    let grown = c.closed-rows.new.pool in
-    let new = c.add-cell.new.self in
-    let close = c.in-ok-rows.ensures in
-    let told = c.add-cell.ensures in
+    let grown = c.closed_rows.new.pool in
+    let new = c.add_cell.new.self in
+    let close = c.in_ok-rows.ensures in
+    let told = c.add_cell.ensures in
     let fit = open_fit m.plain.phase m.plain.levels c.requires.0 m.plain.fit in
     let here = shown pool g.S.TagStore m in
     let fixed = told.fixed.capacity ∙ close.fixed in
@@ -48,7 +48,7 @@ returns g c =
     let all : Fixed here (shown pool g.S.TagStore new) = record { capacity = fixed; behind = untouched; rule = told.fixed.rule } in
     record {
       fixed = all;
-      kept = refused_from (shown pool g.S.TagStore new ≡ here) c.add-cell.result (MatchResult-weaker c.add-cell.result told.refused (λ _ x. x) (λ _ x. same_shown pool g.S.TagStore m new all
+      kept = refused_from (shown pool g.S.TagStore new ≡ here) c.add_cell.result (MatchResult-weaker c.add_cell.result told.refused (λ _ x. x) (λ _ x. same_shown pool g.S.TagStore m new all
           (cut_list ns (pool.nodes grown) (pool.nodes new.pool) c.count-before.result c.count-before.ensures close.list x.2)
           (cut_memory ns (pool.nodes grown) (pool.nodes new.pool) c.count-before.result c.count-before.ensures close.list x.2
           (pool.memory m.pool) (pool.memory grown) (pool.memory new.pool) (pool.capacity m.pool) (pool.capacity new.pool) (pool.behind m.pool) (pool.behind new.pool)
@@ -61,12 +61,12 @@ returns g c =
             told_store L cells here c.args.code (g.K.TagKind.word_of c.args.tag) (code_inside g.K.TagKind.word_of L cells tags here s c.args.code c.requires.1.0)
                 (later_above g.K.TagKind.word_of L cells tags here s c.args.code c.requires.1.0 c.args.last c.requires.1.1.0 c.requires.1.1.1) _ told.answers
                 (subst (λ xs. length xs ≤ pool.capacity m.pool) list (subst (λ n. length (pool.nodes grown) ≤ n) close.fixed (pool.within grown))),
-            accepted_from _ c.add-cell.result (MatchResult-weaker c.add-cell.result told.taken
+            accepted_from _ c.add_cell.result (MatchResult-weaker c.add_cell.result told.taken
                 (λ _ x. let same = ap (λ p. pool.nodes p) x.1 in
                 later_open g.K.TagKind.word_of L cells tags here s c.args.code c.requires.1.0 c.args.tag
                 (shown pool g.S.TagStore new)
-                x.2 x.3 x.4 x.0 fit c.in-ok-rows.rows x.5 c.args.last c.requires.1.1.0 c.requires.1.1.1
-                (subst (λ xs. Closed m.plain.levels cells c.args.last c.args.code xs c.in-ok-rows.rows) (sym same) closed))
+                x.2 x.3 x.4 x.0 fit c.in_ok-rows.rows x.5 c.args.last c.requires.1.1.0 c.requires.1.1.1
+                (subst (λ xs. Closed m.plain.levels cells c.args.last c.args.code xs c.in_ok-rows.rows) (sym same) closed))
                 (λ _ x. tt)),
           );
     }

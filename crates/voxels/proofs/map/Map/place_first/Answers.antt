@@ -14,12 +14,12 @@ returns g c =
     let pool = g.P.NodePool in
     let ns = pool.nodes m.pool in
     let here = shown pool g.S.TagStore m in
-    let new = c.add-cell.new.self in
-    let told = c.add-cell.ensures in
+    let new = c.add_cell.new.self in
+    let told = c.add_cell.ensures in
     let fit = open_fit m.plain.phase m.plain.levels c.requires.0 m.plain.fit in
     record {
       fixed = told.fixed;
-      kept = refused_from (shown pool g.S.TagStore new ≡ here) c.add-cell.result (MatchResult-weaker c.add-cell.result told.refused (λ _ x. x) (λ _ x. same_shown pool g.S.TagStore m new told.fixed
+      kept = refused_from (shown pool g.S.TagStore new ≡ here) c.add_cell.result (MatchResult-weaker c.add_cell.result told.refused (λ _ x. x) (λ _ x. same_shown pool g.S.TagStore m new told.fixed
           (cut_list ns ns (pool.nodes new.pool) c.count-before.result c.count-before.ensures (begins_self ns) x.2)
           (cut_memory ns ns (pool.nodes new.pool) c.count-before.result c.count-before.ensures (begins_self ns) x.2
           (pool.memory m.pool) (pool.memory m.pool) (pool.memory new.pool) (pool.capacity m.pool) (pool.capacity new.pool) (pool.behind m.pool) (pool.behind new.pool)
@@ -30,7 +30,7 @@ returns g c =
             told_store L cells here c.args.code (g.K.TagKind.word_of c.args.tag) (code_inside g.K.TagKind.word_of L cells tags here s c.args.code c.requires.1.0)
                 (first_above g.K.TagKind.word_of L cells tags here s c.args.code c.requires.1.0 c.requires.1.1) _ told.answers
                 (subst (λ xs. length xs ≤ pool.capacity m.pool) list (pool.within m.pool)),
-            accepted_from _ c.add-cell.result (MatchResult-weaker c.add-cell.result told.taken
+            accepted_from _ c.add_cell.result (MatchResult-weaker c.add_cell.result told.taken
                 (λ _ x. first_open g.K.TagKind.word_of L cells tags here s c.args.code c.requires.1.0 c.args.tag
                 (shown pool g.S.TagStore new)
                 x.2 x.3 x.4 x.0 fit m.plain.rows x.5 c.requires.1.1 (ap (λ p. pool.nodes p) x.1) refl)

@@ -13,7 +13,7 @@ returns g c =
     let here = shown pool g.S.TagStore m in
     elim c.match-last.branch [
       | in-Some+in-ok-rows w ↦
-          let told = w.in-ok-rows.ensures in
+          let told = w.in_ok-rows.ensures in
           let e = w.self-is in
           record {
             fixed = record { capacity = ap (λ a. pool.capacity a.pool) e ∙ told.fixed; behind = ap (λ a. pool.behind a.pool) e ∙ told.untouched; rule = ap (λ a. g.S.TagStore.admits a.store) e };
@@ -35,7 +35,7 @@ returns g c =
             kept = tt;
             tells = λ L cells tags s.
                 let list : pool.nodes x.pool ≡ sealed L cells =
-                ap (λ a. pool.nodes a.pool) e ∙ nothing_placed g.K.TagKind.word_of L cells tags here s w.in-default.is in
+                ap (λ a. pool.nodes a.pool) e ∙ nothing_placed g.K.TagKind.word_of L cells tags here s w.in_default.is in
                 let room : length (sealed L cells) ≤ pool.capacity m.pool =
                 subst (λ xs. length xs ≤ pool.capacity m.pool) list (subst (λ n. length (pool.nodes x.pool) ≤ n) (ap (λ a. pool.capacity a.pool) e) (pool.within x.pool)) in (
                   seal_gives L cells here room,

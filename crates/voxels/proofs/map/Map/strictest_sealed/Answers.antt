@@ -11,8 +11,8 @@ use Rattle.voxels.proofs.Order.{picked_strictest}
 use Rattle.voxels.proofs.Strictly.{box_made, box_gives, box_refuses, if_sealed_lem, looks_tell, tells_box}
 use Rattle.voxels.proofs.map.Map.strictest_sealed.Goals as goal
 
-pub over-box-requires : goal.over-box-requires
-over-box-requires g c =
+pub over_box-requires : goal.over_box-requires
+over_box-requires g c =
     let L = c.args.self.now.plain.levels in
     let made = box_made L c.args.low c.args.high c.in-Ok.bounds c.in-Ok.ensures in
     record {
@@ -28,8 +28,8 @@ returns-in-Ok g c =
     let L = m.plain.levels in
     let made = box_made L c.args.low c.args.high c.in-Ok.bounds c.in-Ok.ensures in
     let looks = box_looks g.K.TagKind.reading here c.args.low c.args.high in
-    let value : c.over-box.result ≡ summary g.K.RankedKind.stricter looks =
-    c.over-box.ensures ∙ ap (λ b. summary g.K.RankedKind.stricter (tags_over L b (look_at g.K.TagKind.reading L here.nodes here.words))) made.0 in
+    let value : c.over_box.result ≡ summary g.K.RankedKind.stricter looks =
+    c.over_box.ensures ∙ ap (λ b. summary g.K.RankedKind.stricter (tags_over L b (look_at g.K.TagKind.reading L here.nodes here.words))) made.0 in
     let e = ap gives value ∙ box_gives L c.args.low c.args.high (summary g.K.RankedKind.stricter looks) made.2 made.3 made.4 ∙ sym (if_sealed_lem here _ c.requires) in
     let few : length here.nodes ≤ none = omega (arith, g.P.NodePool.within m.pool, g.P.NodePool.bounded m.pool) in
     record {

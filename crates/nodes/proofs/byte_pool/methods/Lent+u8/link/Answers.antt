@@ -19,7 +19,7 @@ returns-else-n-count c =
     (λ h. sym (ap (λ (node : Node). of_child c.args.i node.links) (node_past c.args.count c.args.n c.args.self.now.places.now h) ∙ child_blank c.args.i))
     c.else-n-count.either
 
-pub overflow-cast-result : goal.overflow-cast-result
-overflow-cast-result c =
+pub overflow_cast-result : goal.overflow_cast-result
+overflow_cast-result c =
     let v = value_under (take 2 (drop (node_bytes * c.args.n + 2 + 2 * c.args.i) c.args.self.now.places.now)) 2 (simp length-take (omega arith)) c.number.ensures.each in
     search rules

@@ -7,6 +7,6 @@ pub returns : goal.returns
 returns c =
     let a = c.args.at in
     record {
-      bytes = put_part c.args.self.now.places.now c.put-node.new.bytes (written c.args.node.now) a (a + 50 - a) node_bytes (omega arith) (search rules);
-      fitting = c.put-node.ensures.fitting;
+      bytes = put_part c.args.self.now.places.now c.put_node.new.bytes (written c.args.node.now) a (a + 50 - a) node_bytes (omega arith) (search rules);
+      fitting = c.put_node.ensures.fitting;
     }

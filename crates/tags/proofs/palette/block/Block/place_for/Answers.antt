@@ -6,4 +6,4 @@ returns-in-Some c = spot_found c.args.self.now c.args.used c.args.i c.args.word 
 
 pub returns-in-None : goal.returns-in-None
 returns-in-None c =
-    spot_free c.args.self.now c.args.used c.args.i c.args.word c.in-None.ensures c.free-place.result c.free-place.ensures
+    spot_free c.args.self.now c.args.used c.args.i c.args.word c.in-None.ensures c.free_place.result c.free_place.ensures
