@@ -11,8 +11,8 @@ returns c = record {
   full_hall = full_hall;
   three_records = three_records;
   no_cells = no_cells;
-  top_load_case = worked.top_load-word;
-  seventeenth = worked.seventeenth-refused;
+  top_load_case = worked.top_load_word;
+  seventeenth = worked.seventeenth_refused;
   single_changed = worked.single_changed;
   one_record = one_record;
 }

@@ -22,7 +22,7 @@ returns-then-together g c =
 
 pub returns-in_err-close_level : goal.returns-in_err-close_level
 returns-in_err-close_level g c =
-    let p = err_from_is_err_and c.from-residual.result c.from-residual.ensures.1 in
+    let p = err_from_is_err_and c.from_residual.result c.from_residual.ensures.1 in
     let inv = c.loop-r.invariant in
     let told = c.in_err-close_level.ensures in
     let long = begins_length _ _ inv.1 in

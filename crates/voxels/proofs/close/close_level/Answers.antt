@@ -9,7 +9,7 @@ use Rattle.voxels.proofs.close.close_level.Goals as goal
 
 pub returns-in_err-number : goal.returns-in_err-number
 returns-in_err-number g c =
-    let p = err_from_is_err_and c.from-residual.result c.from-residual.ensures.1 in
+    let p = err_from_is_err_and c.from_residual.result c.from_residual.ensures.1 in
     let ns = g.P.NodePool.nodes c.args.pool.now in
     let told = c.in_err-number.ensures in
     rw (p.1, p.2)

@@ -24,7 +24,7 @@ returns-in-Some g c =
 
 pub returns-in_err-number : goal.returns-in_err-number
 returns-in_err-number g c =
-    let p = err_from_is_err_and c.from-residual.result c.from-residual.ensures.1 in
+    let p = err_from_is_err_and c.from_residual.result c.from_residual.ensures.1 in
     let ns = g.P.NodePool.nodes c.args.pool.now in
     let node = c.args.node.now in
     let told = c.in_err-number.ensures in

@@ -32,14 +32,14 @@ returns-then-not-is_root g c =
     not_root c.args.levels ns c.requires.0 few (omega arith)
     (λ e. both_ways _ c.if-not-is_root.true (c.is_root.ensures.1 (ap (λ m. (node_at ns m).level) last ∙ e)))
 
-pub returns-in_err--all : goal.returns-in_err--all
-returns-in_err--all g c =
+pub returns-in_err-_all : goal.returns-in_err-_all
+returns-in_err-_all g c =
     let pool = c.args.pool.now in
     let ns = g.P.NodePool.nodes pool in
     let few : length ns ≤ none = omega (arith, g.P.NodePool.within pool, g.P.NodePool.bounded pool) in
     let last : c.count-count.result - 1 ≡ root ns = ap (λ m. m - 1) c.count-count.ensures in
-    rw c.from-residual.ensures
-    (not_order c.args.levels ns c.requires.0 few (omega arith) (subst (λ m. length ns < meet ns c.args.levels m 0) last c.in_err--all.ensures))
+    rw c.from_residual.ensures
+    (not_order c.args.levels ns c.requires.0 few (omega arith) (subst (λ m. length ns < meet ns c.args.levels m 0) last c.in_err-_all.ensures))
 
 pub size_of-requires : goal.size_of-requires
 size_of-requires g c =
@@ -55,7 +55,7 @@ returns g c =
     let few : length ns ≤ none = omega (arith, g.P.NodePool.within pool, g.P.NodePool.bounded pool) in
     let last : c.count-count.result - 1 ≡ root ns = ap (λ m. m - 1) c.count-count.ensures in
     let level : (node_at ns (root ns)).level ≡ c.args.levels = ap (λ m. (node_at ns m).level) (sym last) ∙ c.is_root.ensures.0 c.if-not-is_root.false in
-    let met = c.in_ok--all.ensures in
+    let met = c.in_ok-_all.ensures in
     let p = passed c.args.levels ns c.requires.0 few (omega arith) (c.all_fit.ensures.0 c.if-not-all_fit.false) level
     (subst (λ m. meet ns c.args.levels m 0 ≤ length ns) last (subst (λ x. x ≤ length ns) met.0 met.1)) in
     (p.0, c.size_of.ensures.is ∙ ap (size ns c.args.levels) last ∙ p.1)

@@ -5,7 +5,7 @@ use Rattle.voxels.specs.Sweeps.{look_at}
 use Rattle.voxels.proofs.Summing.{took_none}
 use Rattle.voxels.proofs.Sweeping.{tags_cell, tags_start, tags_all, child_nothing, child_taken, tags_up_to}
 use Rattle.voxels.proofs.sweep.+sweep.Goals as goal
-use Rattle.voxels.proofs.sweep.+sweep.Goals.{in-Some, in-default}
+use Rattle.voxels.proofs.sweep.+sweep.Goals.{in-Some, in_default}
 
 pub returns-then-visit-eq0 : goal.returns-then-visit-eq0
 returns-then-visit-eq0 g t c = λ L s v.
@@ -31,7 +31,7 @@ loop-i-preserved g t c = λ L s v.
           (c.loop-i.invariant L s v)
           (subst (λ b. Took g.K.RankedKind.stricter c.loop-i.best (tags_from L c.args.bounds.now (look_at g.K.TagKind.reading L ns words) (first w.in-Some.next.level (8 * s + c.loop-i.i)) (8 ^ w.in-Some.next.level)) b)
           (sym w.best-is) (w.sweep.ensures L (8 * s + c.loop-i.i) (w.in-Some.ensures.visits L s v)))
-      | in-default w ↦
+      | in_default w ↦
           subst (λ b. Took g.K.RankedKind.stricter c.args.best.now (tags_up_to g.K.TagKind.reading g.K.RankedKind.stricter L ns words c.args.bounds.now (c.args.visit.level - 1) s (c.loop-i.i + 1)) b) (sym w.best-is)
           (child_nothing g.K.TagKind.reading g.K.RankedKind.stricter L ns words c.args.bounds.now (c.args.visit.level - 1) s c.loop-i.i
           c.args.best.now c.loop-i.best (c.loop-i.invariant L s v) (w.in_default.ensures.visits L s v))

@@ -5,7 +5,7 @@ use Rattle.nodes.proofs.LowFirst.{length_bytes_of}
 use Rattle.nodes.proofs.Numbers.{part_long}
 use Rattle.voxels.proofs.Writing.{Front, front_more, front_all, place_inside, same_word, no_word}
 use Rattle.voxels.proofs.write.write_words.Goals as goal
-use Rattle.voxels.proofs.write.write_words.Goals.{in-Some, in-default}
+use Rattle.voxels.proofs.write.write_words.Goals.{in-Some, in_default}
 
 pub overflow_mul-at : goal.overflow_mul-at
 overflow_mul-at g c = let h = place_inside c.args.width c.loop-n.n (length (g.S.TagStore.words c.args.store.now)) (length c.args.buffer.now) (omega (arith, c.count-n-end.ensures)) c.requires in omega arith
@@ -29,7 +29,7 @@ loop-n-preserved g c =
           subst (Front (bytes_of w) w (n + 1) ws c.args.buffer.now) (sym x.buffer-is)
           (front_more (bytes_of w) w ws c.args.buffer.now n (w * n) (w * n + w - w * n) c.loop-n.buffer x.write_number.new.bytes 0 lt refl (omega arith) (omega arith)
           (part ∙ ap (bytes_of w) (same_word ws n x.in-Some.word lt (sym c.word.ensures ∙ x.in-Some.is))) (ap length part ∙ length_bytes_of w x.in-Some.word) c.loop-n.invariant)
-      | in-default x ↦ absurd (no_word ws n lt (sym c.word.ensures ∙ x.in_default.is))
+      | in_default x ↦ absurd (no_word ws n lt (sym c.word.ensures ∙ x.in_default.is))
     ]
 
 pub returns : goal.returns

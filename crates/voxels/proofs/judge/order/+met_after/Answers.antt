@@ -7,7 +7,7 @@ use Rattle.dag.specs.Checks.{Here}
 use Rattle.dag.proofs.Turns.{met_cell, kids_none, kids_there, kids_absent, met_before, kid_here, here_inside, left_failed}
 use Rattle.voxels.proofs.Judges.{left_by}
 use Rattle.voxels.proofs.judge.order.+met_after.Goals as goal
-use Rattle.voxels.proofs.judge.order.+met_after.Goals.{then-has-child+in-ok-met, else-has-child}
+use Rattle.voxels.proofs.judge.order.+met_after.Goals.{then-has_child+in_ok-met, else-has_child}
 
 pub returns-then-k-eq0 : goal.returns-then-k-eq0
 returns-then-k-eq0 g t c =
@@ -47,7 +47,7 @@ returns-in_err-met g t c =
     let link : c.from.result ≡ link_of (node_at ns n) i = c.from.ensures ∙ c.link_at.ensures in
     let fail : length ns < meet ns q (link_of (node_at ns n) i) (meet_children ns q n i c.args.before) =
     subst (λ m. length ns < meet ns q (link_of (node_at ns n) i) m) c.loop-i.invariant.0 (subst (λ l. length ns < meet ns q l c.loop-i.met) link c.in_err-met.ensures) in
-    rw c.from-residual.ensures
+    rw c.from_residual.ensures
     (left_failed ns c.requires.0 n c.args.before c.args.k i (omega arith) c.loop-i-test.true c.if-n-before.false c.requires.1.1 c.requires.1.0 set fail)
 
 pub loop-i-preserved : goal.loop-i-preserved
@@ -58,13 +58,13 @@ loop-i-preserved g t c =
     let q = c.args.k - 1 in
     let bits = ap (λ m. eqb (bit i m) 1) (sym c.mask_at.ensures) ∙ sym c.has_child.ensures in
     elim c.if-has_child.branch [
-      | then-has-child+in-ok-met w ↦
+      | then-has_child+in_ok-met w ↦
           let told = w.in_ok-met.ensures in
           let link : w.from.result ≡ link_of (node_at ns n) i = w.from.ensures ∙ w.link_at.ensures in (
             w.met-is ∙ told.0 ∙ ap₂ (meet ns q) link c.loop-i.invariant.0 ∙ sym (kids_there ns q n i c.args.before (bits ∙ w.if-has_child.true)),
             subst (λ m. m ≤ length ns) (sym w.met-is) told.1,
           )
-      | else-has-child w ↦
+      | else-has_child w ↦
           (w.met-is ∙ c.loop-i.invariant.0 ∙ sym (kids_absent ns q n i c.args.before (bits ∙ w.if-has_child.false)), subst (λ m. m ≤ length ns) (sym w.met-is) c.loop-i.invariant.1)
     ]
 

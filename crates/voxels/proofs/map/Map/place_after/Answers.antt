@@ -12,7 +12,7 @@ use Rattle.voxels.proofs.map.Map.place_after.Goals as goal
 
 pub returns-in_err-rows : goal.returns-in_err-rows
 returns-in_err-rows g c =
-    let p = err_from_is_err_and c.from-residual.result c.from-residual.ensures.1 in
+    let p = err_from_is_err_and c.from_residual.result c.from_residual.ensures.1 in
     let m = c.args.self.now in
     let pool = g.P.NodePool in
     let told = c.in_err-rows.ensures in

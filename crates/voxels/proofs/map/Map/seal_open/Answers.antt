@@ -3,7 +3,7 @@ use Rattle.dag.specs.Sealed.{below, sealed}
 use Rattle.voxels.specs.Shown.{shown}
 use Rattle.voxels.proofs.Sealing.{begins_at, nothing_placed, seals, seal_gives}
 use Rattle.voxels.proofs.map.Map.seal_open.Goals as goal
-use Rattle.voxels.proofs.map.Map.seal_open.Goals.{in-Some+in-ok-rows, in-default}
+use Rattle.voxels.proofs.map.Map.seal_open.Goals.{in-Some+in_ok-rows, in_default}
 
 pub returns : goal.returns
 returns g c =
@@ -12,7 +12,7 @@ returns g c =
     let pool = g.P.NodePool in
     let here = shown pool g.S.TagStore m in
     elim c.match-last.branch [
-      | in-Some+in-ok-rows w ↦
+      | in-Some+in_ok-rows w ↦
           let told = w.in_ok-rows.ensures in
           let e = w.self-is in
           record {
@@ -28,7 +28,7 @@ returns g c =
                   seals g.K.TagKind.word_of L cells tags here s _ refl refl list (ap (λ a. g.S.TagStore.words a.store) e),
                 );
           }
-      | in-default w ↦
+      | in_default w ↦
           let e = w.self-is in
           record {
             fixed = record { capacity = ap (λ a. pool.capacity a.pool) e; behind = ap (λ a. pool.behind a.pool) e; rule = ap (λ a. g.S.TagStore.admits a.store) e };
