@@ -11,8 +11,8 @@ use Rattle.dag.specs.Sealed.{sealed}
 use Rattle.dag.specs.Laws.{Nameable}
 use Rattle.dag.specs.Delivered.{Seals, marked}
 use Rattle.dag.proofs.Marked.{marked_set, seals_marked}
+use Rattle.voxels.specs.declared.phase.Phase.{Phase}
 use Rattle.voxels.specs.declared.phase.Phase.TheVariants.{Sealed}
-use Rattle.voxels.specs.Shown.{Shown}
 use Rattle.voxels.specs.Stands.{SealedAs}
 use Rattle.voxels.specs.Adopts.{AllTags, TagsFit, Verdict, tags_of, with_tag, bad_levels, not_sealed, tags_unfit}
 
@@ -53,9 +53,9 @@ module _ {K : Type 0} (word_of : K → ℕ) (reading : ℕ → Option K) where
     one_level fit = leb-true 1 L (and_parts (leb 1 L) (leb L 10) fit).0
 
     -- a map that is taken stands for the cells that its list marks
-    pub stands_marked : ((w : ℕ) (t : K) → reading w ≡ Some t → word_of t ≡ w) → (m : Shown) → m.phase ≡ Sealed → m.levels ≡ L → m.nodes ≡ ns → m.words ≡ words
-        → Verdict reading L ns words None → SealedAs word_of L (marked L ns) (tags_of reading words) m
-    stands_marked only m phase levels list word-list taken =
+    pub stands_marked : ((w : ℕ) (t : K) → reading w ≡ Some t → word_of t ≡ w) → (phase : Phase) (levels : ℕ) (nodes : List Node) (stored : List ℕ) → phase ≡ Sealed → levels ≡ L → nodes ≡ ns → stored ≡ words
+        → Verdict reading L ns words None → SealedAs word_of L (marked L ns) (tags_of reading words) phase levels nodes stored
+    stands_marked only _ _ _ _ phase levels list word-list taken =
         let s = taken.1 in
         let e = seals_marked L ns s.0 (one_level taken.0) few s.1 s.2 in
         let b = words_back only words taken.2.each in

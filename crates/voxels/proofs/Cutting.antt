@@ -1,5 +1,5 @@
 -- A pool that grew and was cut back is as it was.
-use Rattle.std.proofs.Common.{◌≡◌, ℕ, List, length, take, ap, ◌∙◌, subst, arith}
+use Rattle.std.proofs.Common.{◌≡◌, ℕ, List, length, take, ap, ◌∙◌, subst}
 use lib.Seq.{take-append_seam}
 use Rattle.nodes.specs.declared.node.Node.{Node}
 use Rattle.nodes.specs.Pools.{Memory, Holds, front}

@@ -1,5 +1,5 @@
 -- From a visit to the visits of its children.
-use Rattle.std.proofs.Common.{◌≡◌, ℕ, suc, ◌+◌, ◌-◌, ◌*◌, ◌/◌, ◌%◌, ◌^◌, ◌<◌, ◌≤◌, Bool, true, false, cond, ◌⊎◌, List, length, Some, None, Option, sym, refl, ap, ◌∙◌, subst, ap₂, inl, inr, add_assoc, pow-suc, div-add-mod', le-div_iff_mul-le, zero-add, div-le_self, arith}
+use Rattle.std.proofs.Common.{◌≡◌, ℕ, suc, ◌+◌, ◌*◌, ◌/◌, ◌%◌, ◌^◌, ◌<◌, ◌≤◌, Bool, true, false, cond, List, length, Some, None, sym, refl, ap, ◌∙◌, subst, ap₂, inl, inr, add_assoc, pow-suc, div-add-mod', le-div_iff_mul-le, zero-add, div-le_self, arith}
 use native.Mathlib.Nat.{div-div-eq-div-mul, div-eq_of_lt, pow-le-pow_right}
 use Rattle.std.proofs.lemmas.Bool.{lt-ltb, eq-eqb}
 use Rattle.std.proofs.lemmas.Bool.Decides.{nat_tests}
@@ -15,8 +15,8 @@ use Rattle.dag.specs.Rules.{node_at}
 use Rattle.dag.specs.Walk.{walk, path, total, root}
 use Rattle.dag.proofs.Marks.{child_is, child_below, child_step}
 use Rattle.voxels.specs.declared.visit.Visit.{Visit}
-use Rattle.voxels.specs.Finds.{found, Shut, Goes}
-use Rattle.voxels.specs.Visiting.{shrunk, shrunk_box, child_place, Near, Ready, Visits, Nothing}
+use Rattle.voxels.specs.Finds.{found, Shut, GoesTo}
+use Rattle.voxels.specs.Visiting.{shrunk, shrunk_box, child_place, Near, Visits, Nothing}
 
 -- ---- places
 
@@ -109,7 +109,7 @@ module _ (L : ℕ) (ns : List Node) (bounds : CellBox) (s i k : ℕ) (visit : Vi
 
   -- a child to go on with
   pub child_visits : (next : Visit) → next.level ≡ k → next.at ≡ child_place visit.at i → box_holds (shrunk_box k bounds) (child_place visit.at i) ≡ true
-      → (offset : ℕ) → next.rank ≡ visit.rank + offset → Goes ns k visit.node i next.node offset → Visits L ns bounds (8 * s + i) next
+      → (offset : ℕ) → next.rank ≡ visit.rank + offset → GoesTo ns k visit.node i next.node offset → Visits L ns bounds (8 * s + i) next
   child_visits next l at met offset r goes = record {
     within = omega (arith, low);
     meets = subst (λ p. box_holds (shrunk_box next.level bounds) p ≡ true) (sym at) (subst (λ j. box_holds (shrunk_box j bounds) (child_place visit.at i) ≡ true) (sym l) met);

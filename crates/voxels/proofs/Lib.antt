@@ -1,5 +1,6 @@
 pub mod WalkSteps
 pub mod Looking
+pub mod Retagging
 pub mod Tables
 pub mod Masks
 pub mod Numbering
@@ -8,7 +9,6 @@ pub mod Few
 pub mod Placing
 pub mod Cutting
 pub mod Sealing
-pub mod Showing
 pub mod Placed
 pub mod SmallPool
 pub mod Descent

@@ -1,8 +1,8 @@
 -- What look answers on a sealed map.
-use Rattle.std.proofs.Common.{◌≡◌, ℕ, zero, suc, ◌^◌, ◌<◌, ◌≤◌, Bool, true, false, cond, not, List, [], ◌∷◌, map, length, Some, None, Option, sym, refl, ap, ◌∙◌, subst, ap₂, arith}
+use Rattle.std.proofs.Common.{◌≡◌, ℕ, zero, suc, ◌^◌, ◌<◌, ◌≤◌, Bool, true, false, cond, not, List, [], ◌∷◌, map, length, Some, None, Option, sym, refl, ap, ◌∙◌, subst, arith}
 use Rattle.std.specs.Option.{option_map}
 use Rattle.std.specs.List.{slice_get}
-use Rattle.cells.specs.Refusals.{Answer, gives, refuses, refuse_if}
+use Rattle.cells.specs.Refusals.{gives, refuses, refuse_if}
 use Rattle.cells.specs.Hall.{levels_fit, cell_fits, code_of}
 use Rattle.cells.specs.declared.hall.Cell.{Cell}
 use Rattle.cells.proofs.Checks.{passed, goes_on}
@@ -19,7 +19,6 @@ use Rattle.voxels.specs.declared.phase.Phase.TheVariants.{Sealed}
 use Rattle.voxels.specs.declared.found.Found.{Found}
 use Rattle.voxels.specs.Phases.{levels_in}
 use Rattle.voxels.specs.Finds.{found, ranked}
-use Rattle.voxels.specs.Shown.{Shown, if_sealed}
 use Rattle.voxels.specs.Looks.{read, shows, look_answer}
 use Rattle.voxels.specs.Stands.{SealedAs, stands_at, look_told}
 
@@ -27,34 +26,28 @@ given_same : (a b : ℕ) → gives a ≡ gives b → a ≡ b
 given_same a b e = cc
 
 -- a cell of the hall is looked up by its code
-pub look_sealed : {K : Type 0} (reading : ℕ → Option K) (m : Shown) (cell : Cell) (code : ℕ) (r : Option (Found K))
-    → m.phase ≡ Sealed → gives code ≡ refuse_if (not (levels_fit m.levels)) 1 (refuse_if (not (cell_fits m.levels cell)) 3 (gives (code_of m.levels cell)))
-    → r ≡ shows reading m.words (found m.levels m.nodes code) → gives r ≡ look_answer reading m cell
-look_sealed reading m cell code r z e f =
-    let L = m.levels in
-    let ns = m.nodes in
-    let words = m.words in
+pub look_sealed : {K : Type 0} (reading : ℕ → Option K) (phase : Phase) (L : ℕ) (ns : List Node) (words : List ℕ) (cell : Cell) (code : ℕ) (r : Option (Found K))
+    → phase ≡ Sealed → gives code ≡ refuse_if (not (levels_fit L)) 1 (refuse_if (not (cell_fits L cell)) 3 (gives (code_of L cell)))
+    → r ≡ shows reading words (found L ns code) → gives r ≡ look_answer reading phase L ns words cell
+look_sealed reading phase L ns words cell code r z e f =
     let p = passed (not (levels_fit L)) 1 (refuse_if (not (cell_fits L cell)) 3 (gives (code_of L cell))) code e in
     let q = passed (not (cell_fits L cell)) 3 (gives (code_of L cell)) code p.1 in
     let s : code ≡ code_of L cell = given_same code (code_of L cell) q.1 in
     ap gives (f ∙ ap (λ c. shows reading words (found L ns c)) s)
     ∙ ap (λ b. refuse_if b 3 (gives (shows reading words (found L ns (code_of L cell))))) (sym q.0)
-    ∙ ap (λ h. if_sealed h (refuse_if (not (cell_fits L cell)) 3 (gives (shows reading words (found L ns (code_of L cell)))))) (sym z)
+    ∙ ap (λ h. look_answer reading h L ns words cell) (sym z)
 
 refused_same : {A B : Type 0} (b : Bool) (n : ℕ) (v : A) (w : B) → refuses n ≡ refuse_if b 3 (gives v) → refuses n ≡ refuse_if b 3 (gives w)
 refused_same true n v w e = let f : n ≡ 3 = cc in ap refuses f
 refused_same false n v w e = let z : ◌≡◌ {A = ℕ} 0 1 = cc in absurd (omega arith)
 
 -- a cell outside is refused
-pub look_outside : {K : Type 0} (reading : ℕ → Option K) (m : Shown) (cell : Cell) (n : ℕ)
-    → m.phase ≡ Sealed → levels_fit m.levels ≡ true → refuses n ≡ refuse_if (not (levels_fit m.levels)) 1 (refuse_if (not (cell_fits m.levels cell)) 3 (gives (code_of m.levels cell)))
-    → refuses n ≡ look_answer reading m cell
-look_outside reading m cell n z fit e =
-    let L = m.levels in
-    let ns = m.nodes in
-    let words = m.words in
+pub look_outside : {K : Type 0} (reading : ℕ → Option K) (phase : Phase) (L : ℕ) (ns : List Node) (words : List ℕ) (cell : Cell) (n : ℕ)
+    → phase ≡ Sealed → levels_fit L ≡ true → refuses n ≡ refuse_if (not (levels_fit L)) 1 (refuse_if (not (cell_fits L cell)) 3 (gives (code_of L cell)))
+    → refuses n ≡ look_answer reading phase L ns words cell
+look_outside reading phase L ns words cell n z fit e =
     refused_same (not (cell_fits L cell)) n (code_of L cell) (shows reading words (found L ns (code_of L cell))) (e ∙ goes_on (levels_fit L) 1 _ fit)
-    ∙ ap (λ h. if_sealed h (refuse_if (not (cell_fits L cell)) 3 (gives (shows reading words (found L ns (code_of L cell)))))) (sym z)
+    ∙ ap (λ h. look_answer reading h L ns words cell) (sym z)
 
 -- a sealed map has 1 to 10 levels
 pub sealed_fit : (phase : Phase) (L : ℕ) → phase ≡ Sealed → levels_in phase L ≡ true → levels_fit L ≡ true
@@ -89,18 +82,15 @@ module _ {K : Type 0} (reading : ℕ → Option K) (word_of : K → ℕ) (back :
           ∙ ap (read reading n) (nth_words word_of tags n) ∙ read_tag n (slice_get tags n)
       go false e = refl
 
-  abbrev looked : ℕ → List Node → List ℕ → Cell → Answer (Option (Found K))
-  looked l ns words cell = refuse_if (not (cell_fits l cell)) 3 (gives (shows reading words (found l ns (code_of l cell))))
-
   -- look tells the accepted cells and their latest tags
-  pub look_tells : (L : ℕ) (cells : List ℕ) (tags : List K) (m : Shown) (cell : Cell)
-      → SealedAs word_of L cells tags m → 1 ≤ m.levels → length m.nodes ≤ none
-      → look_answer reading m cell ≡ look_told L cells tags cell
-  look_tells L cells tags m cell s one few =
+  pub look_tells : (L : ℕ) (cells : List ℕ) (tags : List K) (phase : Phase) (levels : ℕ) (ns : List Node) (words : List ℕ) (cell : Cell)
+      → SealedAs word_of L cells tags phase levels ns words → 1 ≤ levels → length ns ≤ none
+      → look_answer reading phase levels ns words cell ≡ look_told L cells tags cell
+  look_tells L cells tags phase levels ns words cell s one few =
       let e1 = s.levels_are in
-      ap (λ h. if_sealed h (looked m.levels m.nodes m.words cell)) s.phase_is
-      ∙ ap (λ l. looked l m.nodes m.words cell) e1
-      ∙ ap (λ xs. looked L xs m.words cell) s.list
-      ∙ ap (λ ws. looked L (sealed L cells) ws cell) s.words_are
+      ap (λ h. look_answer reading h levels ns words cell) s.phase_is
+      ∙ ap (λ l. look_answer reading Sealed l ns words cell) e1
+      ∙ ap (λ xs. look_answer reading Sealed L xs words cell) s.list
+      ∙ ap (λ ws. look_answer reading Sealed L (sealed L cells) ws cell) s.words_are
       ∙ ap (λ o. refuse_if (not (cell_fits L cell)) 3 (gives o))
       (shows_tag L cells tags (code_of L cell) (subst (λ l. 1 ≤ l) e1 one) (subst (λ xs. length xs ≤ none) s.list few) (code_below L cell))

@@ -1,7 +1,7 @@
 -- The tag that is picked is the strictest.
-use Rattle.std.proofs.Common.{◌≡◌, ℕ, zero, suc, Bool, true, false, cond, ◌||◌, List, [], ◌∷◌, Some, None, Option, sym, refl, ap, ◌∙◌, subst, arith}
+use Rattle.std.proofs.Common.{◌≡◌, ℕ, zero, suc, Bool, true, false, cond, ◌||◌, List, [], ◌∷◌, Some, None, sym, refl, ap, ◌∙◌, subst, arith}
 use Rattle.std.specs.List.{slice_get, AllByRecursion as All}
-use Rattle.voxels.specs.Strict.{StrictestOf, pick, picked}
+use Rattle.voxels.specs.Strict.{StrictestOf, picked}
 
 module _ {K : Type 0} (stricter : K → K → Bool) (total : (a b : K) → (stricter a b || stricter b a) ≡ true)
     (through : (a b c : K) → stricter a b ≡ true → stricter b c ≡ true → stricter a c ≡ true) where

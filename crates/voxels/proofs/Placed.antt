@@ -18,7 +18,6 @@ use Rattle.dag.proofs.Next.{set_push, push_last, push_one, first_last, first_one
 use Rattle.voxels.specs.declared.phase.Phase.{Phase}
 use Rattle.voxels.specs.declared.phase.Phase.TheVariants.{Open}
 use Rattle.voxels.specs.declared.row.OpenRow.{OpenRow}
-use Rattle.voxels.specs.Shown.{Shown}
 use Rattle.voxels.specs.Places.{CellTaken, place_told, place_early, Early}
 use Rattle.voxels.specs.Stages.{AtStage, Closed}
 use Rattle.voxels.specs.Stands.{OpenAs, Building, EmptyRows}
@@ -27,30 +26,30 @@ use Rattle.voxels.proofs.Placing.{cell_placed}
 
 -- ---- the answer
 
-module _ (L : ℕ) (cells : List ℕ) (m : Shown) (code word : ℕ) (inside : code < 8 ^ L) where
+module _ (L : ℕ) (cells : List ℕ) (room : ℕ) (admits : List ℕ → Bool) (words : List ℕ) (code word : ℕ) (inside : code < 8 ^ L) where
   -- what comes after the tests for the store, for the pool and for the cells
   abbrev stored : Answer (Unit {0})
-  stored = refuse_if (not (can_add m.admits m.words word)) 7 (gives tt)
+  stored = refuse_if (not (can_add admits words word)) 7 (gives tt)
 
   abbrev roomy : Answer (Unit {0})
-  roomy = refuse_if (ltb m.capacity (length (below L cells code))) 6 stored
+  roomy = refuse_if (ltb room (length (below L cells code))) 6 stored
 
-  in_hall : place_told L cells m code word ≡ refuse_if (holds cells code (8 ^ L)) 4 roomy
+  in_hall : place_told L cells room admits words code word ≡ refuse_if (holds cells code (8 ^ L)) 4 roomy
   in_hall = ap (λ b. refuse_if b 3 (refuse_if (holds cells code (8 ^ L)) 4 roomy)) (lt-leb (8 ^ L) code inside)
 
-  pub told_not_above : holds cells code (8 ^ L) ≡ true → refuses 4 ≡ place_told L cells m code word
+  pub told_not_above : holds cells code (8 ^ L) ≡ true → refuses 4 ≡ place_told L cells room admits words code word
   told_not_above h = sym (in_hall ∙ ap (λ b. refuse_if b 4 roomy) h)
 
   module _ (above : holds cells code (8 ^ L) ≡ false) where
-    is_above : place_told L cells m code word ≡ roomy
+    is_above : place_told L cells room admits words code word ≡ roomy
     is_above = in_hall ∙ ap (λ b. refuse_if b 4 roomy) above
 
-    pub told_full : (n : ℕ) → n ≡ 6 → m.capacity < length (below L cells code) → refuses n ≡ place_told L cells m code word
-    told_full n e h = ap refuses e ∙ sym (is_above ∙ ap (λ b. refuse_if b 6 stored) (lt-ltb m.capacity (length (below L cells code)) h))
+    pub told_full : (n : ℕ) → n ≡ 6 → room < length (below L cells code) → refuses n ≡ place_told L cells room admits words code word
+    told_full n e h = ap refuses e ∙ sym (is_above ∙ ap (λ b. refuse_if b 6 stored) (lt-ltb room (length (below L cells code)) h))
 
-    pub told_store : (a : Answer (Unit {0})) → a ≡ refuse_if (not (can_add m.admits m.words word)) 7 (gives tt) → length (below L cells code) ≤ m.capacity
-        → a ≡ place_told L cells m code word
-    told_store a e h = e ∙ sym (is_above ∙ ap (λ b. refuse_if b 6 stored) (le-ltb m.capacity (length (below L cells code)) h))
+    pub told_store : (a : Answer (Unit {0})) → a ≡ refuse_if (not (can_add admits words word)) 7 (gives tt) → length (below L cells code) ≤ room
+        → a ≡ place_told L cells room admits words code word
+    told_store a e h = e ∙ sym (is_above ∙ ap (λ b. refuse_if b 6 stored) (le-ltb room (length (below L cells code)) h))
 
 no_cells : (a b : ℕ) → holds [] a b ≡ false
 unfolding count
@@ -91,23 +90,24 @@ later_stage L cells m code ms rows after fit all h closed taken =
     (λ j b. at.counts j b ∙ counts_ready L cells m code closed.level at.last h closed.within closed.parted closed.together j b)
     ms closed.list
 
-module _ {K : Type 0} (word_of : K → ℕ) (L : ℕ) (cells : List ℕ) (tags : List K) (here : Shown) (stands : OpenAs word_of L cells tags here) (code : ℕ) (h : code < 8 ^ here.levels) where
+module _ {K : Type 0} (word_of : K → ℕ) (L : ℕ) (cells : List ℕ) (tags : List K) (phase : Phase) (levels : ℕ) (last : Option ℕ) (ns : List Node) (rows : List OpenRow) (words : List ℕ)
+    (stands : OpenAs word_of L cells tags phase levels last ns rows words) (code : ℕ) (h : code < 8 ^ levels) where
   pub code_inside : code < 8 ^ L
   code_inside = subst (λ l. code < 8 ^ l) stands.levels_are h
 
-  module _ (e : here.last ≡ None) where
-    start : Building L cells None here.nodes here.rows
-    start = subst (λ o. Building L cells o here.nodes here.rows) e stands.building
+  module _ (e : last ≡ None) where
+    start : Building L cells None ns rows
+    start = subst (λ o. Building L cells o ns rows) e stands.building
 
     pub first_above : holds cells code (8 ^ L) ≡ false
     first_above = subst (λ cs. holds cs code (8 ^ L) ≡ false) (sym start.0) (no_cells code (8 ^ L))
 
-    pub first_list : here.nodes ≡ below L cells code
+    pub first_list : ns ≡ below L cells code
     first_list = start.1 ∙ sym (below_none L code) ∙ ap (λ cs. below L cs code) (sym start.0)
 
-  module _ (m : ℕ) (e : here.last ≡ Some m) where
-    building : Building L cells (Some m) here.nodes here.rows
-    building = subst (λ o. Building L cells o here.nodes here.rows) e stands.building
+  module _ (m : ℕ) (e : last ≡ Some m) where
+    building : Building L cells (Some m) ns rows
+    building = subst (λ o. Building L cells o ns rows) e stands.building
 
     pub later_above : m < code → holds cells code (8 ^ L) ≡ false
     later_above l = holds_none L cells m code stands.set.inside building.1.placed building.1.last l
@@ -116,40 +116,40 @@ module _ {K : Type 0} (word_of : K → ℕ) (L : ℕ) (cells : List ℕ) (tags :
     later_not l = holds_above L cells m code stands.set.inside building.1.placed building.1.last l
 
   -- what add-cell leaves, where all cells are below the code
-  module _ (tag : K) (next : Shown) (p : next.phase ≡ here.phase) (q : next.levels ≡ here.levels) (r : next.last ≡ Some code)
-      (w : next.words ≡ here.words ++ word_of tag ∷ []) where
-    open_more : All (λ d. d < code) cells → AtStage L (cells ++ code ∷ []) code 0 next.nodes next.rows
-        → OpenAs word_of L (cells ++ code ∷ []) (tags ++ tag ∷ []) next
+  module _ (tag : K) (phase' : Phase) (levels' : ℕ) (last' : Option ℕ) (ms : List Node) (after : List OpenRow) (words' : List ℕ)
+      (p : phase' ≡ phase) (q : levels' ≡ levels) (r : last' ≡ Some code) (w : words' ≡ words ++ word_of tag ∷ []) where
+    open_more : All (λ d. d < code) cells → AtStage L (cells ++ code ∷ []) code 0 ms after
+        → OpenAs word_of L (cells ++ code ∷ []) (tags ++ tag ∷ []) phase' levels' last' ms after words'
     open_more l at = record {
       phase_is = p ∙ stands.phase_is;
       levels_are = q ∙ stands.levels_are;
       set = set_push L cells code stands.set l code_inside;
-      building = subst (λ o. Building L (cells ++ code ∷ []) o next.nodes next.rows) (sym r)
+      building = subst (λ o. Building L (cells ++ code ∷ []) o ms after) (sym r)
           (All-push (λ d. d ≤ code) cells code (All-weaker (λ d. d < code) (λ d. d ≤ code) (λ d b. omega arith) cells l) (omega arith), at);
       words_are = w ∙ ap (λ ws. ws ++ word_of tag ∷ []) stands.words_are ∙ sym (map-append word_of tags (tag ∷ []));
       tag_each = length_push tags tag ∙ ap (λ n. n + 1) stands.tag_each ∙ sym (length_push cells code);
     }
 
-    module _ (fit : levels_fit here.levels ≡ true) (left : List OpenRow) (taken : CellTaken left code next.rows) where
+    module _ (fit : levels_fit levels ≡ true) (left : List OpenRow) (taken : CellTaken left code after) where
       fits : levels_fit L ≡ true
       fits = subst (λ l. levels_fit l ≡ true) stands.levels_are fit
 
-      pub first_open : here.last ≡ None → next.nodes ≡ here.nodes → left ≡ here.rows
-          → OpenAs word_of L (cells ++ code ∷ []) (tags ++ tag ∷ []) next × (next.nodes ≡ below L cells code)
+      pub first_open : last ≡ None → ms ≡ ns → left ≡ rows
+          → OpenAs word_of L (cells ++ code ∷ []) (tags ++ tag ∷ []) phase' levels' last' ms after words' × (ms ≡ below L cells code)
       first_open e f g =
           let b = start e in
-          let list : next.nodes ≡ below L cells code = f ∙ first_list e in (
+          let list : ms ≡ below L cells code = f ∙ first_list e in (
             open_more (subst (All (λ d. d < code)) (sym b.0) tt)
-                (subst (λ xs. AtStage L (cells ++ code ∷ []) code 0 xs next.rows) (sym list)
-                (subst (λ cs. AtStage L (cs ++ code ∷ []) code 0 (below L cs code) next.rows) (sym b.0)
-                (first_stage L code left next.rows fits code_inside (subst EmptyRows (sym g) b.2) taken))),
+                (subst (λ xs. AtStage L (cells ++ code ∷ []) code 0 xs after) (sym list)
+                (subst (λ cs. AtStage L (cs ++ code ∷ []) code 0 (below L cs code) after) (sym b.0)
+                (first_stage L code left after fits code_inside (subst EmptyRows (sym g) b.2) taken))),
             list,
           )
 
-      pub later_open : (m : ℕ) → here.last ≡ Some m → m < code → Closed here.levels cells m code next.nodes left
-          → OpenAs word_of L (cells ++ code ∷ []) (tags ++ tag ∷ []) next × (next.nodes ≡ below L cells code)
+      pub later_open : (m : ℕ) → last ≡ Some m → m < code → Closed levels cells m code ms left
+          → OpenAs word_of L (cells ++ code ∷ []) (tags ++ tag ∷ []) phase' levels' last' ms after words' × (ms ≡ below L cells code)
       later_open m e l closed =
           let b = building m e in
-          let c : Closed L cells m code next.nodes left = subst (λ k. Closed k cells m code next.nodes left) stands.levels_are closed in
+          let c : Closed L cells m code ms left = subst (λ k. Closed k cells m code ms left) stands.levels_are closed in
           let all = All-weaker (λ d. d ≤ m) (λ d. d < code) (λ d k. omega arith) cells b.0 in
-          (open_more all (later_stage L cells m code next.nodes left next.rows fits (set_push L cells code stands.set all code_inside) l c taken), c.list)
+          (open_more all (later_stage L cells m code ms left after fits (set_push L cells code stands.set all code_inside) l c taken), c.list)

@@ -1,5 +1,5 @@
 -- One more cell in the open rows.
-use Rattle.std.proofs.Common.{◌≡◌, ℕ, ◌+◌, ◌-◌, ◌%◌, ◌^◌, ◌<◌, ◌≤◌, List, [], ◌∷◌, ◌++◌, get_or, sym, refl, ap, ◌∙◌, subst, ⊎_elim, div-one, arith}
+use Rattle.std.proofs.Common.{◌≡◌, ℕ, ◌+◌, ◌%◌, ◌^◌, ◌<◌, ◌≤◌, List, [], ◌∷◌, ◌++◌, get_or, sym, refl, ap, ◌∙◌, subst, ⊎_elim, div-one, arith}
 use lib.Count.{ones}
 use Rattle.std.proofs.lemmas.Bool.{cases_eq}
 use Rattle.cells.specs.SubCubes.{sub_cube}
@@ -15,7 +15,7 @@ use Rattle.dag.proofs.Next.{RowReady, CountReady, push_has, place_own, place_sum
 use Rattle.voxels.specs.declared.row.OpenRow.{OpenRow}
 use Rattle.voxels.specs.Stages.{row_at, AtStage}
 use Rattle.voxels.specs.Places.{CellTaken}
-use Rattle.voxels.proofs.Masks.{row_mask, row_link, cell_taken}
+use Rattle.voxels.proofs.Masks.{row_mask, row_link}
 use Rattle.voxels.proofs.Few.{few_cells}
 
 row_few : (cells : List ℕ) (k s n : ℕ) → ((a b : ℕ) → count cells a b ≤ 2 ^ 30) → row_count cells k s n ≤ 2 ^ 30
@@ -58,7 +58,7 @@ module _ (L : ℕ) (cells : List ℕ) (c : ℕ) (h : L ≤ 10) (one : 0 < L) (al
   placed_node j l =
       ⊎_elim
       (λ e. subst (λ i. (row_at after i).node ≡ stage_row (cells ++ c ∷ []) (below L (cells ++ c ∷ []) c) c 0 i) (sym e)
-      (cell_taken (row_at rows 0).node (row_at after 0).node (c % 8) _ taken.level (taken.mask room) taken.links taken.offsets free ∙ ap (with_child (row_at rows 0).node (c % 8) none) before
+      (taken.node room free ∙ ap (with_child (row_at rows 0).node (c % 8) none) before
       ∙ sym (place_own L cells c single (row_at rows 0).node (row_at rows 0).count (ready 0 one) (counted 0 one))))
       (λ e. ap (λ (a : OpenRow). a.node) (taken.others j e) ∙ sym (place_others L cells c single j (row_at rows j).node (omega arith) (ready j l)))
       (cases_eq j 0)

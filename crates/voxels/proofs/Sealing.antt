@@ -1,14 +1,15 @@
 -- What seal makes of an open map.
-use Rattle.std.proofs.Common.{◌≡◌, ℕ, ◌^◌, ◌<◌, ◌≤◌, true, List, length, Some, None, Option, sym, ap, ◌∙◌, subst, arith}
+use Rattle.std.proofs.Common.{◌≡◌, ℕ, ◌^◌, ◌<◌, ◌≤◌, true, List, length, Some, None, Option, sym, ap, ◌∙◌, subst}
 use Rattle.std.proofs.lemmas.Bool.{ltb-true, lt-ltb, le-ltb}
 use Rattle.cells.specs.Refusals.{gives, refuses, refuse_if}
 use Rattle.cells.specs.Hall.{levels_fit}
+use Rattle.nodes.specs.declared.node.Node.{Node}
 use Rattle.dag.specs.Sealed.{below, sealed}
 use Rattle.dag.proofs.Depends.{below_none}
 use Rattle.voxels.specs.declared.phase.Phase.{Phase}
 use Rattle.voxels.specs.declared.phase.Phase.TheVariants.{Open, Sealed}
+use Rattle.voxels.specs.declared.row.OpenRow.{OpenRow}
 use Rattle.voxels.specs.Phases.{levels_in, last_in}
-use Rattle.voxels.specs.Shown.{Shown}
 use Rattle.voxels.specs.Places.{seal_told}
 use Rattle.voxels.specs.Stages.{AtStage}
 use Rattle.voxels.specs.Stands.{OpenAs, SealedAs, Building}
@@ -21,24 +22,25 @@ pub last_below : (o : Option ℕ) (L m : ℕ) → o ≡ Some m → last_in o L �
 last_below o L m z e = ltb-true m (8 ^ L) (ap (λ p. last_in p L) (sym z) ∙ e)
 
 -- a pool with room for the sealed list does not refuse, and one without does
-pub seal_gives : (L : ℕ) (cells : List ℕ) (m : Shown) → length (sealed L cells) ≤ m.capacity → gives tt ≡ seal_told L cells m
-seal_gives L cells m h = ap (λ b. refuse_if b 6 (gives tt)) (sym (le-ltb m.capacity (length (sealed L cells)) h))
+pub seal_gives : (L : ℕ) (cells : List ℕ) (room : ℕ) → length (sealed L cells) ≤ room → gives tt ≡ seal_told L cells room
+seal_gives L cells room h = ap (λ b. refuse_if b 6 (gives tt)) (sym (le-ltb room (length (sealed L cells)) h))
 
-pub seal_refuses : (L : ℕ) (cells : List ℕ) (m : Shown) (n : ℕ) → n ≡ 6 → m.capacity < length (sealed L cells) → refuses n ≡ seal_told L cells m
-seal_refuses L cells m n e h = ap refuses e ∙ ap (λ b. refuse_if b 6 (gives tt)) (sym (lt-ltb m.capacity (length (sealed L cells)) h))
+pub seal_refuses : (L : ℕ) (cells : List ℕ) (room n : ℕ) → n ≡ 6 → room < length (sealed L cells) → refuses n ≡ seal_told L cells room
+seal_refuses L cells room n e h = ap refuses e ∙ ap (λ b. refuse_if b 6 (gives tt)) (sym (lt-ltb room (length (sealed L cells)) h))
 
-module _ {K : Type 0} (word_of : K → ℕ) (L : ℕ) (cells : List ℕ) (tags : List K) (m : Shown) (stands : OpenAs word_of L cells tags m) where
+module _ {K : Type 0} (word_of : K → ℕ) (L : ℕ) (cells : List ℕ) (tags : List K) (phase : Phase) (levels : ℕ) (last : Option ℕ) (ns : List Node) (rows : List OpenRow) (words : List ℕ)
+    (stands : OpenAs word_of L cells tags phase levels last ns rows words) where
   -- the stage at which the closing begins
-  pub begins_at : (c : ℕ) → m.last ≡ Some c → AtStage m.levels cells c 0 m.nodes m.rows
-  begins_at c e =
-      let b : Building L cells (Some c) m.nodes m.rows = subst (λ o. Building L cells o m.nodes m.rows) e stands.building in
-      subst (λ l. AtStage l cells c 0 m.nodes m.rows) (sym stands.levels_are) b.1
+  pub begins_at : (m : ℕ) → last ≡ Some m → AtStage levels cells m 0 ns rows
+  begins_at m e =
+      let b : Building L cells (Some m) ns rows = subst (λ o. Building L cells o ns rows) e stands.building in
+      subst (λ l. AtStage l cells m 0 ns rows) (sym stands.levels_are) b.1
 
   -- without cells the list is empty
-  pub nothing_placed : m.last ≡ None → m.nodes ≡ sealed L cells
+  pub nothing_placed : last ≡ None → ns ≡ sealed L cells
   nothing_placed e =
-      let b : Building L cells None m.nodes m.rows = subst (λ o. Building L cells o m.nodes m.rows) e stands.building in
+      let b : Building L cells None ns rows = subst (λ o. Building L cells o ns rows) e stands.building in
       b.1 ∙ sym (below_none L (8 ^ L)) ∙ ap (λ cs. below L cs (8 ^ L)) (sym b.0)
 
-  pub seals : (after : Shown) → after.phase ≡ Sealed → after.levels ≡ m.levels → after.nodes ≡ sealed L cells → after.words ≡ m.words → SealedAs word_of L cells tags after
-  seals after e l f h = record { phase_is = e; levels_are = l ∙ stands.levels_are; set = stands.set; list = f; words_are = h ∙ stands.words_are; tag_each = stands.tag_each }
+  pub seals : (after : Phase) (ms : List Node) (more : List ℕ) → after ≡ Sealed → ms ≡ sealed L cells → more ≡ words → SealedAs word_of L cells tags after levels ms more
+  seals after ms more e f h = record { phase_is = e; levels_are = stands.levels_are; set = stands.set; list = f; words_are = h ∙ stands.words_are; tag_each = stands.tag_each }

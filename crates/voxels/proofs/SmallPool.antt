@@ -1,11 +1,10 @@
 -- The worked case of a pool with room for one record, by computing.
-use Rattle.std.proofs.Common.{◌≡◌, ℕ, Bool, true, not, ltb, List, [], ◌∷◌, ◌++◌, refl, ap, ◌∙◌, ap₂}
+use Rattle.std.proofs.Common.{ℕ, Bool, not, ltb, [], ◌∷◌, ◌++◌, ap, ap₂}
 use Rattle.cells.specs.Hall.{from_digits}
 use Rattle.cells.specs.Refusals.{gives, refuse_if}
 use Rattle.dag.specs.Sets.{count}
 use Rattle.dag.specs.Records.{lowest, link_to}
 use Rattle.dag.specs.Sealed.{turn, closing, below}
-use Rattle.voxels.specs.Shown.{Shown}
 use Rattle.voxels.specs.OneRecord.{OneRecord}
 
 pub one_record : OneRecord

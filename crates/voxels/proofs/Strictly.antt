@@ -1,8 +1,8 @@
 -- What strictest answers on a sealed map.
-use Rattle.std.proofs.Common.{◌≡◌, ℕ, ◌+◌, ◌*◌, ◌^◌, ◌<◌, ◌≤◌, Bool, true, false, not, ◌&&◌, List, [], map, length, Some, None, Option, sym, refl, ap, ◌∙◌, subst, ap₂, zero-mul, arith}
+use Rattle.std.proofs.Common.{◌≡◌, ℕ, ◌^◌, ◌<◌, ◌≤◌, Bool, true, false, not, ◌&&◌, List, map, length, Some, None, Option, sym, refl, ap, ◌∙◌, subst, ap₂, zero-mul, arith}
 use Rattle.std.proofs.lemmas.Bool.{and_parts}
 use Rattle.cells.specs.Refusals.{Answer, gives, refuses, refuse_if}
-use Rattle.cells.specs.Hall.{levels_fit, cell_fits, cell_at}
+use Rattle.cells.specs.Hall.{levels_fit, cell_fits}
 use Rattle.cells.specs.Boxes.{not_above}
 use Rattle.cells.specs.declared.hall.Cell.{Cell}
 use Rattle.cells.specs.declared.boxes.CellBox.{CellBox}
@@ -15,11 +15,12 @@ use Rattle.dag.specs.Sealed.{sealed}
 use Rattle.voxels.specs.declared.phase.Phase.TheVariants.{Sealed}
 use Rattle.voxels.specs.declared.strictest.Strictest.{Strictest}
 use Rattle.voxels.specs.declared.visit.Visit.{Visit}
-use Rattle.voxels.specs.Shown.{Shown, Given, if_sealed}
+use Rattle.voxels.specs.Shown.{Shown, if_sealed}
 use Rattle.voxels.specs.Finds.{found}
 use Rattle.voxels.specs.Looks.{shows}
-use Rattle.voxels.specs.Stands.{SealedAs, stands_at}
-use Rattle.voxels.specs.Strict.{StrictestOf, picked, summary, Took, tag_found, tags_from, tags_over, tags_inside, if_box, box_looks, strictest_answer}
+use Rattle.voxels.specs.Shown.{ShowsSealed}
+use Rattle.voxels.specs.Stands.{stands_at}
+use Rattle.voxels.specs.Strict.{summary, Took, tag_found, tags_from, tags_over, tags_inside, if_box, box_looks, strictest_answer}
 use Rattle.voxels.specs.Sweeps.{look_at, Swept}
 use Rattle.voxels.specs.Visiting.{Visits, Nothing}
 use Rattle.voxels.proofs.Summing.{took_all, tags_few}
@@ -96,7 +97,7 @@ if_sealed_lem m next e = ap (λ p. if_sealed p next) e
 
 module _ {K : Type 0} (reading : ℕ → Option K) (word_of : K → ℕ) (back : (t : K) → reading (word_of t) ≡ Some t) where
   -- the looks find the tags of the cells in the box
-  pub looks_tell : (L : ℕ) (cells : List ℕ) (tags : List K) (m : Shown) (low high : Cell) → SealedAs word_of L cells tags m → 1 ≤ m.levels → length m.nodes ≤ none
+  pub looks_tell : (L : ℕ) (cells : List ℕ) (tags : List K) (m : Shown) (low high : Cell) → ShowsSealed word_of L cells tags m → 1 ≤ m.levels → length m.nodes ≤ none
       → box_looks reading m low high ≡ tags_inside L (record { low = low; high = high }) cells tags
   looks_tell L cells tags m low high s one short =
       let bounds : CellBox = record { low = low; high = high } in
@@ -109,7 +110,7 @@ module _ {K : Type 0} (reading : ℕ → Option K) (word_of : K → ℕ) (back :
 
 -- the answer by the cells, from the answer by the looks
 pub tells_box : {K : Type 0} (reading : ℕ → Option K) (word_of : K → ℕ) (stricter : K → K → Bool) (L : ℕ) (cells : List ℕ) (tags : List K) (m : Shown) (low high : Cell) (a : Answer (Strictest K))
-    → SealedAs word_of L cells tags m → box_looks reading m low high ≡ tags_inside L (record { low = low; high = high }) cells tags
+    → ShowsSealed word_of L cells tags m → box_looks reading m low high ≡ tags_inside L (record { low = low; high = high }) cells tags
     → a ≡ strictest_answer reading stricter m low high → a ≡ if_box L low high (summary stricter (tags_inside L (record { low = low; high = high }) cells tags))
 tells_box reading word_of stricter L cells tags m low high a s looks e =
     e ∙ if_sealed_lem m _ s.phase_is ∙ ap₂ (λ l ts. if_box l low high (summary stricter ts)) s.levels_are looks

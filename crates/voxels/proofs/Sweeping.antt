@@ -1,5 +1,5 @@
 -- A sweep takes the tags of a sub-cube, child by child.
-use Rattle.std.proofs.Common.{◌≡◌, ℕ, zero, suc, ◌+◌, ◌-◌, ◌*◌, ◌/◌, ◌%◌, ◌^◌, ◌<◌, ◌≤◌, Bool, true, false, cond, ◌⊎◌, List, [], ◌∷◌, ◌++◌, length, Some, None, Option, sym, refl, ap, ◌∙◌, subst, ap₂, inl, inr, ⊎_elim, add-zero, mul_assoc, mul_comm, add-mul, one-mul, pow-suc, zero-mul, mul-one, div-one, add-one, arith}
+use Rattle.std.proofs.Common.{◌≡◌, ℕ, suc, ◌+◌, ◌*◌, ◌^◌, Bool, true, false, cond, ◌⊎◌, List, [], ◌++◌, Some, None, Option, sym, refl, ap, ◌∙◌, subst, ap₂, inl, inr, add-zero, mul_assoc, mul_comm, add-mul, one-mul, pow-suc, zero-mul, mul-one, div-one, arith}
 use Rattle.cells.specs.Hall.{cell_at}
 use Rattle.cells.specs.SubCubes.{sub_cube}
 use Rattle.cells.specs.Boxes.{box_holds}
@@ -9,14 +9,14 @@ use Rattle.cells.proofs.Codes.{in_sub_cubes}
 use Rattle.nodes.specs.declared.node.Node.{Node}
 use Rattle.dag.specs.Walk.{walk, path, total}
 use Rattle.dag.specs.Records.{first}
-use Rattle.dag.proofs.Marks.{cell_cube, path_none}
+use Rattle.dag.proofs.Marks.{cell_cube}
 use Rattle.voxels.specs.declared.visit.Visit.{Visit}
 use Rattle.voxels.specs.declared.strictest.Strictest.{Strictest}
 use Rattle.voxels.specs.Finds.{found}
 use Rattle.voxels.specs.Looks.{shows}
 use Rattle.voxels.specs.Strict.{Took, tag_found, boxed, tags_from}
 use Rattle.voxels.specs.Visiting.{shrunk, shrunk_box, Visits, Nothing}
-use Rattle.voxels.specs.Sweeps.{tagged_at, look_at, Swept}
+use Rattle.voxels.specs.Sweeps.{tagged_at, look_at}
 use Rattle.voxels.proofs.Summing.{took_none, took_more, tags_append, tags_none, tags_one}
 
 module _ {K : Type 0} (reading : ℕ → Option K) (stricter : K → K → Bool) (L : ℕ) (ns : List Node) (words : List ℕ) (bounds : CellBox) where

@@ -1,5 +1,5 @@
 -- One step of a walk, by what the code reads of a record.
-use Rattle.std.proofs.Common.{◌≡◌, ℕ, zero, suc, ◌+◌, ◌-◌, ◌*◌, ◌/◌, ◌%◌, ◌^◌, ◌<◌, ◌≤◌, Bool, true, false, cond, not, ◌&&◌, eqb, ltb, List, [], ◌∷◌, length, Some, None, sym, refl, ap, ◌∙◌, subst, ap₂, add-zero, mod-lt, add-one, arith}
+use Rattle.std.proofs.Common.{◌≡◌, ℕ, zero, suc, ◌+◌, ◌*◌, ◌/◌, ◌%◌, ◌^◌, ◌<◌, ◌≤◌, true, false, cond, not, List, [], length, Some, None, sym, refl, ap, ◌∙◌, subst, add-zero, mod-lt, arith}
 use Rattle.std.proofs.lemmas.Bool.{and_from, and_left, and_right, lt-ltb, le-ltb, eq-eqb, ne_eqb}
 use Rattle.cells.specs.Hall.{bit}
 use Rattle.cells.specs.SubCubes.{child}
@@ -9,7 +9,7 @@ use Rattle.nodes.specs.declared.node.Node.{Node}
 use Rattle.dag.specs.Rules.{node_at, link_of, offset_of}
 use Rattle.dag.specs.Walk.{leads, walk, path, total, root, rank}
 use Rattle.dag.proofs.Marks.{child_is, walk_shut, walk_stray, walk_on, path_more, path_none}
-use Rattle.voxels.specs.Finds.{Shut, Goes, found}
+use Rattle.voxels.specs.Finds.{Shut, GoesTo, found}
 
 -- the child that the code takes is that of the definition
 pub child_taken : (k code : ℕ) → code / 2 ^ (3 * k) % 8 ≡ child (suc k) code
@@ -25,7 +25,7 @@ module _ (ns : List Node) (k n i : ℕ) where
   -- a step that goes on, where the link leads
   pub onward : (bit i (node_at ns n).mask ≡ 0 → ⊥) → (next : ℕ) → leads ns n k (link_of (node_at ns n) i) ≡ true
       → ((code : ℕ) → walk ns k (link_of (node_at ns n) i) code ≡ walk ns k next code) → ((code : ℕ) → path ns k (link_of (node_at ns n) i) code ≡ path ns k next code)
-      → next < length ns → offset_of (node_at ns n) i < 2 ^ 32 → Goes ns k n i next (offset_of (node_at ns n) i)
+      → next < length ns → offset_of (node_at ns n) i < 2 ^ 32 → GoesTo ns k n i next (offset_of (node_at ns n) i)
   onward b next l w p h s = record {
     walks = λ code c.
         walk_on ns k n code (ap (λ j. bit j (node_at ns n).mask) c ∙ set_bit b) (subst (λ j. leads ns n k (link_of (node_at ns n) j) ≡ true) (sym c) l)
@@ -44,9 +44,9 @@ module _ (ns : List Node) (k n i : ℕ) where
 
 -- on level 1 every step that is not shut ends at the cell
 pub at_cell : (ns : List Node) (k n i : ℕ) → k ≡ 0 → (bit i (node_at ns n).mask ≡ 0 → ⊥) → n < length ns
-    → offset_of (node_at ns n) i < 2 ^ 32 → Goes ns k n i n (offset_of (node_at ns n) i)
+    → offset_of (node_at ns n) i < 2 ^ 32 → GoesTo ns k n i n (offset_of (node_at ns n) i)
 at_cell ns k n i z =
-    subst (λ k. (bit i (node_at ns n).mask ≡ 0 → ⊥) → n < length ns → offset_of (node_at ns n) i < 2 ^ 32 → Goes ns k n i n (offset_of (node_at ns n) i))
+    subst (λ k. (bit i (node_at ns n).mask ≡ 0 → ⊥) → n < length ns → offset_of (node_at ns n) i < 2 ^ 32 → GoesTo ns k n i n (offset_of (node_at ns n) i))
     (sym z) (λ b h s. unfold walk path in onward ns 0 n i b n refl (λ code. refl) (λ code. refl) h s)
 
 -- above level 1 a link leads on exactly if it names an earlier record of the level below
@@ -71,7 +71,7 @@ module _ (ns : List Node) (k n i : ℕ) (up : 0 < k) (next : ℕ) (is : next ≡
   other_level h = stray ns k n i (subst (λ m. leads ns n k m ≡ false) is (leads_other ns n k next up h))
 
   pub goes_on : (bit i (node_at ns n).mask ≡ 0 → ⊥) → next < n → n < length ns → length ns ≤ none → (node_at ns next).level ≡ k
-      → offset_of (node_at ns n) i < 2 ^ 32 → Goes ns k n i next (offset_of (node_at ns n) i)
+      → offset_of (node_at ns n) i < 2 ^ 32 → GoesTo ns k n i next (offset_of (node_at ns n) i)
   goes_on b h l few e s =
       onward ns k n i b next (subst (λ m. leads ns n k m ≡ true) is (leads_true ns n k next up h l few e))
       (λ code. ap (λ m. walk ns k m code) (sym is)) (λ code. ap (λ m. path ns k m code) (sym is)) (omega arith) s

@@ -6,7 +6,7 @@ use Rattle.dag.specs.Sets.{CellSet}
 use Rattle.dag.specs.Sealed.{sealed}
 use Rattle.dag.specs.Delivered.{Seals, marked}
 use Rattle.voxels.specs.Shown.{Shown}
-use Rattle.voxels.specs.Stands.{SealedAs}
+use Rattle.voxels.specs.Shown.{ShowsSealed}
 
 -- every word is that of a tag
 abbrev pub AllTags : {K : Type 0} → (ℕ → Option K) → List ℕ → Type 0
@@ -44,4 +44,4 @@ module _ {K : Type 0} (reading : ℕ → Option K) (L : ℕ) (ns : List Node) (w
 abbrev pub TakesSealed : {K : Type 0} → (K → ℕ) → ℕ → List Node → List ℕ → Shown → Type 0
 TakesSealed {K} word_of L ns words m =
     (cells : List ℕ) (tags : List K) → levels_fit L ≡ true → CellSet L cells → ns ≡ sealed L cells
-    → words ≡ map word_of tags → length tags ≡ length cells → SealedAs word_of L cells tags m
+    → words ≡ map word_of tags → length tags ≡ length cells → ShowsSealed word_of L cells tags m

@@ -8,7 +8,7 @@ use Rattle.dag.specs.Sets.{has, count}
 use Rattle.dag.specs.Walk.{rank}
 use Rattle.voxels.specs.Shown.{Shown, Accepted, if_sealed}
 use Rattle.voxels.specs.Finds.{found}
-use Rattle.voxels.specs.Stands.{SealedAs}
+use Rattle.voxels.specs.Shown.{ShowsSealed}
 
 -- the answer where the walk finds a rank, or nothing: 5 where nothing stands, 7 where the store does not take the changed list
 abbrev pub retag_at : Shown → ℕ → Option ℕ → Answer (Unit {0})
@@ -48,6 +48,6 @@ retag_told L cells m cell word =
 -- it answers just that; accepted, the map stands for the same cells, with the tag the cell's latest
 abbrev pub RetagTells : {K : Type 0} → (K → ℕ) → Cell → K → Shown → Shown → Answer (Unit {0}) → Type 0
 RetagTells {K} word_of cell tag before after a =
-    (L : ℕ) (cells : List ℕ) (tags : List K) → SealedAs word_of L cells tags before
+    (L : ℕ) (cells : List ℕ) (tags : List K) → ShowsSealed word_of L cells tags before
     → (a ≡ retag_told L cells before cell (word_of tag))
-    × Accepted a (SealedAs word_of L cells (slice_set tags (count cells 0 (code_of L cell)) tag) after)
+    × Accepted a (ShowsSealed word_of L cells (slice_set tags (count cells 0 (code_of L cell)) tag) after)

@@ -1,5 +1,5 @@
 -- What a map shows: its plain state, and what its pool and its store mean.
-use Rattle.std.specs.Prelude.{◌≡◌, ℕ, Bool, List, Option}
+use Rattle.std.specs.Prelude.{ℕ, Bool, List, Option}
 use Rattle.cells.specs.Refusals.{Answer, gives, refuses, number_of}
 use Rattle.nodes.specs.declared.node.Node.{Node}
 use Rattle.nodes.specs.declared.pool.NodePool.{Ghosts as PoolMeaning}
@@ -9,6 +9,7 @@ use Rattle.voxels.specs.declared.phase.Phase.{Phase}
 use Rattle.voxels.specs.declared.phase.Phase.TheVariants.{Void, Open, Sealed}
 use Rattle.voxels.specs.declared.row.OpenRow.{OpenRow}
 use Rattle.voxels.specs.declared.map.Map.{Map}
+use Rattle.voxels.specs.Stands.{OpenAs, SealedAs}
 
 pub record Shown : Type 0 where
   pub phase : Phase
@@ -41,12 +42,6 @@ shown pool store m = record {
   admits = store.admits m.store;
 }
 
--- what no call changes: the capacity, the lent memory behind it, and the store's rule
-pub record Fixed (before after : Shown) : Type 0 where
-  pub capacity : after.capacity ≡ before.capacity
-  pub behind : after.behind ≡ before.behind
-  pub rule : after.admits ≡ before.admits
-
 -- what holds if a call was accepted
 abbrev pub Accepted : {A : Type 0} → Answer A → Type 0 → Type 0
 Accepted (gives _) P = P
@@ -67,3 +62,11 @@ abbrev pub if_sealed : {A : Type 0} → Phase → Answer A → Answer A
 if_sealed (Void refusal) next = refuses (number_of refusal)
 if_sealed Open next = refuses 2
 if_sealed Sealed next = next
+
+-- an open map that shows this stands for cells, in code order, and their tags
+abbrev pub ShowsOpen : {K : Type 0} → (K → ℕ) → ℕ → List ℕ → List K → Shown → Type 0
+ShowsOpen word_of L cells tags m = OpenAs word_of L cells tags m.phase m.levels m.last m.nodes m.rows m.words
+
+-- a sealed map that shows this stands for cells, in code order, and their tags
+abbrev pub ShowsSealed : {K : Type 0} → (K → ℕ) → ℕ → List ℕ → List K → Shown → Type 0
+ShowsSealed word_of L cells tags m = SealedAs word_of L cells tags m.phase m.levels m.nodes m.words

@@ -8,21 +8,21 @@ use Rattle.nodes.specs.declared.node.Node.{Node}
 use Rattle.dag.specs.Sets.{CellSet, has, count}
 use Rattle.dag.specs.Sealed.{sealed}
 use Rattle.dag.specs.Rows.{empty_row}
+use Rattle.voxels.specs.declared.phase.Phase.{Phase}
 use Rattle.voxels.specs.declared.phase.Phase.TheVariants.{Open, Sealed}
 use Rattle.voxels.specs.declared.found.Found.{Found}
 use Rattle.voxels.specs.declared.row.OpenRow.{OpenRow}
-use Rattle.voxels.specs.Shown.{Shown}
 use Rattle.voxels.specs.Stages.{row_at, AtStage}
 use Rattle.voxels.specs.Finds.{ranked}
 
 -- a sealed map stands for cells, in code order, and their tags: its node list is the sealed list of the cells,
 -- and its words are the words of the tags
-pub record SealedAs {K : Type 0} (word_of : K → ℕ) (L : ℕ) (cells : List ℕ) (tags : List K) (m : Shown) : Type 0 where
-  pub phase_is : m.phase ≡ Sealed
-  pub levels_are : m.levels ≡ L
+pub record SealedAs {K : Type 0} (word_of : K → ℕ) (L : ℕ) (cells : List ℕ) (tags : List K) (phase : Phase) (levels : ℕ) (ns : List Node) (words : List ℕ) : Type 0 where
+  pub phase_is : phase ≡ Sealed
+  pub levels_are : levels ≡ L
   pub set : CellSet L cells
-  pub list : m.nodes ≡ sealed L cells
-  pub words_are : m.words ≡ map word_of tags
+  pub list : ns ≡ sealed L cells
+  pub words_are : words ≡ map word_of tags
   pub tag_each : length tags ≡ length cells
 
 -- what a map that stands for these cells and tags has at a code: free where no cell stands,
@@ -33,11 +33,6 @@ stands_at cells tags code = cond (has cells code) (ranked (count cells 0 code) (
 -- and so what look answers
 abbrev pub look_told : {K : Type 0} → ℕ → List ℕ → List K → Cell → Answer (Option (Found K))
 look_told L cells tags cell = refuse_if (not (cell_fits L cell)) 3 (gives (stands_at cells tags (code_of L cell)))
-
--- look on a map that stands for cells and tags
-abbrev pub LookTells : {K : Type 0} → (K → ℕ) → Cell → Shown → Answer (Option (Found K)) → Type 0
-LookTells {K} word_of cell m a =
-    (L : ℕ) (cells : List ℕ) (tags : List K) → SealedAs word_of L cells tags m → a ≡ look_told L cells tags cell
 
 -- rows in which no cell is yet
 abbrev pub EmptyRows : List OpenRow → Type 0
@@ -50,10 +45,10 @@ Building L cells None ns rows = (cells ≡ []) × (ns ≡ []) × EmptyRows rows
 Building L cells (Some m) ns rows = All (λ c. c ≤ m) cells × AtStage L cells m 0 ns rows
 
 -- an open map stands for cells, in code order, and their tags
-pub record OpenAs {K : Type 0} (word_of : K → ℕ) (L : ℕ) (cells : List ℕ) (tags : List K) (m : Shown) : Type 0 where
-  pub phase_is : m.phase ≡ Open
-  pub levels_are : m.levels ≡ L
+pub record OpenAs {K : Type 0} (word_of : K → ℕ) (L : ℕ) (cells : List ℕ) (tags : List K) (phase : Phase) (levels : ℕ) (last : Option ℕ) (ns : List Node) (rows : List OpenRow) (words : List ℕ) : Type 0 where
+  pub phase_is : phase ≡ Open
+  pub levels_are : levels ≡ L
   pub set : CellSet L cells
-  pub building : Building L cells m.last m.nodes m.rows
-  pub words_are : m.words ≡ map word_of tags
+  pub building : Building L cells last ns rows
+  pub words_are : words ≡ map word_of tags
   pub tag_each : length tags ≡ length cells

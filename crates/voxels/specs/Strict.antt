@@ -11,7 +11,7 @@ use Rattle.voxels.specs.declared.strictest.Strictest.{Strictest}
 use Rattle.voxels.specs.Shown.{Shown, Given, if_sealed}
 use Rattle.voxels.specs.Finds.{found}
 use Rattle.voxels.specs.Looks.{shows}
-use Rattle.voxels.specs.Stands.{SealedAs}
+use Rattle.voxels.specs.Shown.{ShowsSealed}
 
 -- ---- the strictest of some tags
 
@@ -90,5 +90,5 @@ module _ {K : Type 0} (reading : ℕ → Option K) (stricter : K → K → Bool)
 -- by the accepted cells and their latest tags
 abbrev pub StrictestTells : {K : Type 0} → (K → ℕ) → (K → K → Bool) → Cell → Cell → Shown → Answer (Strictest K) → Type 0
 StrictestTells {K} word_of stricter low high m a =
-    (L : ℕ) (cells : List ℕ) (tags : List K) → SealedAs word_of L cells tags m
+    (L : ℕ) (cells : List ℕ) (tags : List K) → ShowsSealed word_of L cells tags m
     → a ≡ if_box L low high (summary stricter (tags_inside L (record { low = low; high = high }) cells tags))

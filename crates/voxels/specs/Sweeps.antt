@@ -1,5 +1,5 @@
 -- What a sweep through a sub-cube has taken.
-use Rattle.std.specs.Prelude.{ℕ, ◌*◌, ◌^◌, Bool, List, [], Some, Option}
+use Rattle.std.specs.Prelude.{ℕ, ◌^◌, Bool, List, Some, Option}
 use Rattle.cells.specs.declared.boxes.CellBox.{CellBox}
 use Rattle.nodes.specs.declared.node.Node.{Node}
 use Rattle.dag.specs.Records.{first}

@@ -4,7 +4,7 @@ use Rattle.std.specs.List.{flat_map}
 use Rattle.cells.specs.Refusals.{Answer, gives, refuse_if}
 use Rattle.nodes.specs.Format.{bytes_of, node_bytes, read_nodes, values_of, written}
 use Rattle.voxels.specs.Shown.{Shown, Accepted, if_sealed}
-use Rattle.voxels.specs.Stands.{SealedAs}
+use Rattle.voxels.specs.Shown.{ShowsSealed}
 
 -- whether a buffer is too short: 50 bytes for each record, and for each word the kind's width
 abbrev pub too_short : Shown → ℕ → List ℕ → List ℕ → Bool
@@ -29,4 +29,4 @@ NodesBack m buffer = read_nodes (length m.nodes) buffer ≡ m.nodes
 -- on a map that stands for cells and tags, the words read back from the second are the store's
 abbrev pub WordsBack : {K : Type 0} → (K → ℕ) → ℕ → Shown → List ℕ → Answer (Unit {0}) → Type 0
 WordsBack {K} word_of width m buffer a =
-    (L : ℕ) (cells : List ℕ) (tags : List K) → SealedAs word_of L cells tags m → Accepted a (values_of width (length m.words) buffer ≡ m.words)
+    (L : ℕ) (cells : List ℕ) (tags : List K) → ShowsSealed word_of L cells tags m → Accepted a (values_of width (length m.words) buffer ≡ m.words)

@@ -1,17 +1,16 @@
 // The map of a hall, over any pool, any store and any kind of tags.
-ghost use Rattle.std.specs.Prelude.{◌≡◌, ◌^◌, ◌<◌, true, false, not, [], ◌∷◌, ◌++◌, length, take, Some, None, OnErr, OnOk, slice_index_or};
+ghost use Rattle.std.specs.Prelude.{◌≡◌, ℕ, ◌^◌, ◌<◌, true, false, not, List, [], ◌∷◌, ◌++◌, length, take, Some, None, OnErr, OnOk, slice_index_or};
 ghost use Rattle.std.specs.List.{slice_get};
 ghost use Rattle.cells.specs.Refusals.{answer, gives, refuse_if};
 ghost use Rattle.cells.specs.Hall.{levels_fit};
 ghost use Rattle.nodes.specs.Records.{blank};
 ghost use Rattle.nodes.specs.Pools.{front};
 ghost use Rattle.tags.specs.Stores.{can_add};
+ghost use Rattle.dag.specs.Sealed.{below};
 ghost use Rattle.voxels.specs.Looks.{look_answer, shows};
 ghost use Rattle.voxels.specs.Finds.{found};
-ghost use Rattle.voxels.specs.Shown.{shown, Fixed, Refused};
-ghost use Rattle.voxels.specs.Places.{CellTaken, Early, PlaceTells, SealTells, place_early, seal_early};
-ghost use Rattle.voxels.specs.Stands.{OpenAs, LookTells};
-ghost use Rattle.voxels.specs.Phases.{void_by};
+ghost use Rattle.voxels.specs.Places.{CellTaken, Early, place_early, place_told, seal_early, seal_told};
+ghost use Rattle.voxels.specs.Stands.{OpenAs, SealedAs, look_told};
 
 use crate::close::{closed_rows, undo, volume};
 use crate::found::Found;
@@ -44,10 +43,10 @@ pub struct Map<P, S, K> {
 impl<P: NodePool, S: TagStore, K: TagKind> Map<P, S, K> {
     // A map without cells over an emptied pool and store. Bad levels give a void map, with both untouched.
     pub fn open(levels: u32, pool: P, store: S) -> Map<P, S, K>
-        ensures void { levels_fit levels ≡ false → (void_by result.plain.phase ≡ Some 1) × (result.pool ≡ pool) × (result.store ≡ store) }
+        ensures void { levels_fit levels ≡ false → (result.plain.phase ≡ Phase.Void Refusal.Levels) × (result.pool ≡ pool) × (result.store ≡ store) }
         ensures fixed { (P.NodePool.capacity result.pool ≡ P.NodePool.capacity pool) × (P.NodePool.behind result.pool ≡ P.NodePool.behind pool) }
         ensures rule { S.TagStore.admits result.store ≡ S.TagStore.admits store }
-        ensures stands { levels_fit levels ≡ true → OpenAs K.TagKind.word_of levels [] [] (shown P.NodePool S.TagStore result) }
+        ensures stands { levels_fit levels ≡ true → OpenAs K.TagKind.word_of levels [] [] result.plain.phase result.plain.levels result.plain.last (P.NodePool.nodes result.pool) result.plain.rows (S.TagStore.words result.store) }
     {
         let rows = empty_rows();
         if let Err(refusal) = check_levels(levels) {
@@ -143,8 +142,8 @@ impl<P: NodePool, S: TagStore, K: TagKind> Map<P, S, K> {
     // What stands at a cell of a sealed map.
     fn look_sealed(&self, cell: Cell) -> Result<Option<Found<K>>, Refusal>
         requires { self.now.plain.phase ≡ Phase.Sealed }
-        ensures list { answer result ≡ look_answer K.TagKind.reading (shown P.NodePool S.TagStore self.now) cell }
-        ensures tells { LookTells K.TagKind.word_of cell (shown P.NodePool S.TagStore self.now) (answer result) }
+        ensures list { answer result ≡ look_answer K.TagKind.reading self.now.plain.phase self.now.plain.levels (P.NodePool.nodes self.now.pool) (S.TagStore.words self.now.store) cell }
+        ensures tells { (L : ℕ) (cells : List ℕ) (tags : List K) → SealedAs K.TagKind.word_of L cells tags self.now.plain.phase self.now.plain.levels (P.NodePool.nodes self.now.pool) (S.TagStore.words self.now.store) → answer result ≡ look_told L cells tags cell }
     {
         match code_of(self.plain.levels, cell) {
             Ok(code) => Ok(self.found_at(code)),
@@ -154,8 +153,8 @@ impl<P: NodePool, S: TagStore, K: TagKind> Map<P, S, K> {
 
     // What stands at a cell: free, or its rank and its tag.
     pub fn look(&self, cell: Cell) -> Result<Option<Found<K>>, Refusal>
-        ensures list { answer result ≡ look_answer K.TagKind.reading (shown P.NodePool S.TagStore self.now) cell }
-        ensures tells { LookTells K.TagKind.word_of cell (shown P.NodePool S.TagStore self.now) (answer result) }
+        ensures list { answer result ≡ look_answer K.TagKind.reading self.now.plain.phase self.now.plain.levels (P.NodePool.nodes self.now.pool) (S.TagStore.words self.now.store) cell }
+        ensures tells { (L : ℕ) (cells : List ℕ) (tags : List K) → SealedAs K.TagKind.word_of L cells tags self.now.plain.phase self.now.plain.levels (P.NodePool.nodes self.now.pool) (S.TagStore.words self.now.store) → answer result ≡ look_told L cells tags cell }
     {
         match self.plain.phase {
             Phase::Void(refusal) => Err(refusal),
@@ -173,7 +172,7 @@ impl<P: NodePool, S: TagStore, K: TagKind> Map<P, S, K> {
         tag: K,
     ) -> Result<(), Refusal>
         requires { code < 8 ^ self.old.plain.levels }
-        ensures fixed { Fixed (shown P.NodePool S.TagStore self.old) (shown P.NodePool S.TagStore self.new) }
+        ensures fixed { (P.NodePool.capacity self.new.pool ≡ P.NodePool.capacity self.old.pool) × (P.NodePool.behind self.new.pool ≡ P.NodePool.behind self.old.pool) × (S.TagStore.admits self.new.store ≡ S.TagStore.admits self.old.store) }
         ensures answers { answer result ≡ refuse_if (not (can_add (S.TagStore.admits self.old.store) (S.TagStore.words self.old.store) (K.TagKind.word_of tag))) 7 (gives tt) }
         ensures taken { OnOk result ((S.TagStore.words self.new.store ≡ S.TagStore.words self.old.store ++ K.TagKind.word_of tag ∷ []) × (self.new.pool ≡ self.old.pool) × (self.new.plain.phase ≡ self.old.plain.phase) × (self.new.plain.levels ≡ self.old.plain.levels) × (self.new.plain.last ≡ Some code) × CellTaken rows code self.new.plain.rows) }
         ensures refused { OnErr result ((S.TagStore.words self.new.store ≡ S.TagStore.words self.old.store) × (self.new.plain ≡ self.old.plain) × (P.NodePool.nodes self.new.pool ≡ take before (P.NodePool.nodes self.old.pool)) × (front (length (P.NodePool.nodes self.new.pool)) (P.NodePool.memory self.new.pool) ≡ front (length (P.NodePool.nodes self.new.pool)) (P.NodePool.memory self.old.pool))) }
@@ -197,9 +196,9 @@ impl<P: NodePool, S: TagStore, K: TagKind> Map<P, S, K> {
     // Places the first cell.
     fn place_first(&mut self, code: u32, tag: K) -> Result<(), Refusal>
         requires { (self.old.plain.phase ≡ Phase.Open) × ((code < 8 ^ self.old.plain.levels) × (self.old.plain.last ≡ None)) }
-        ensures fixed { Fixed (shown P.NodePool S.TagStore self.old) (shown P.NodePool S.TagStore self.new) }
-        ensures kept { Refused (answer result) (shown P.NodePool S.TagStore self.new ≡ shown P.NodePool S.TagStore self.old) }
-        ensures tells { PlaceTells K.TagKind.word_of code tag (shown P.NodePool S.TagStore self.old) (shown P.NodePool S.TagStore self.new) (answer result) }
+        ensures fixed { (P.NodePool.capacity self.new.pool ≡ P.NodePool.capacity self.old.pool) × (P.NodePool.behind self.new.pool ≡ P.NodePool.behind self.old.pool) × (S.TagStore.admits self.new.store ≡ S.TagStore.admits self.old.store) }
+        ensures kept { OnErr result ((P.NodePool.nodes self.new.pool ≡ P.NodePool.nodes self.old.pool) × (P.NodePool.memory self.new.pool ≡ P.NodePool.memory self.old.pool) × (S.TagStore.words self.new.store ≡ S.TagStore.words self.old.store) × (self.new.plain ≡ self.old.plain)) }
+        ensures tells { (L : ℕ) (cells : List ℕ) (tags : List K) → OpenAs K.TagKind.word_of L cells tags self.old.plain.phase self.old.plain.levels self.old.plain.last (P.NodePool.nodes self.old.pool) self.old.plain.rows (S.TagStore.words self.old.store) → (answer result ≡ place_told L cells (P.NodePool.capacity self.old.pool) (S.TagStore.admits self.old.store) (S.TagStore.words self.old.store) code (K.TagKind.word_of tag)) × OnOk result (OpenAs K.TagKind.word_of L (cells ++ code ∷ []) (tags ++ tag ∷ []) self.new.plain.phase self.new.plain.levels self.new.plain.last (P.NodePool.nodes self.new.pool) self.new.plain.rows (S.TagStore.words self.new.store) × (P.NodePool.nodes self.new.pool ≡ below L cells code)) }
     {
         let before = self.pool.count();
         let rows = self.plain.rows;
@@ -209,9 +208,9 @@ impl<P: NodePool, S: TagStore, K: TagKind> Map<P, S, K> {
     // Places a cell above the last one.
     fn place_after(&mut self, last: u32, code: u32, tag: K) -> Result<(), Refusal>
         requires { (self.old.plain.phase ≡ Phase.Open) × ((code < 8 ^ self.old.plain.levels) × ((self.old.plain.last ≡ Some last) × (last < code))) }
-        ensures fixed { Fixed (shown P.NodePool S.TagStore self.old) (shown P.NodePool S.TagStore self.new) }
-        ensures kept { Refused (answer result) (shown P.NodePool S.TagStore self.new ≡ shown P.NodePool S.TagStore self.old) }
-        ensures tells { PlaceTells K.TagKind.word_of code tag (shown P.NodePool S.TagStore self.old) (shown P.NodePool S.TagStore self.new) (answer result) }
+        ensures fixed { (P.NodePool.capacity self.new.pool ≡ P.NodePool.capacity self.old.pool) × (P.NodePool.behind self.new.pool ≡ P.NodePool.behind self.old.pool) × (S.TagStore.admits self.new.store ≡ S.TagStore.admits self.old.store) }
+        ensures kept { OnErr result ((P.NodePool.nodes self.new.pool ≡ P.NodePool.nodes self.old.pool) × (P.NodePool.memory self.new.pool ≡ P.NodePool.memory self.old.pool) × (S.TagStore.words self.new.store ≡ S.TagStore.words self.old.store) × (self.new.plain ≡ self.old.plain)) }
+        ensures tells { (L : ℕ) (cells : List ℕ) (tags : List K) → OpenAs K.TagKind.word_of L cells tags self.old.plain.phase self.old.plain.levels self.old.plain.last (P.NodePool.nodes self.old.pool) self.old.plain.rows (S.TagStore.words self.old.store) → (answer result ≡ place_told L cells (P.NodePool.capacity self.old.pool) (S.TagStore.admits self.old.store) (S.TagStore.words self.old.store) code (K.TagKind.word_of tag)) × OnOk result (OpenAs K.TagKind.word_of L (cells ++ code ∷ []) (tags ++ tag ∷ []) self.new.plain.phase self.new.plain.levels self.new.plain.last (P.NodePool.nodes self.new.pool) self.new.plain.rows (S.TagStore.words self.new.store) × (P.NodePool.nodes self.new.pool ≡ below L cells code)) }
     {
         let before = self.pool.count();
         let Plain { levels, rows, .. } = self.plain;
@@ -222,10 +221,10 @@ impl<P: NodePool, S: TagStore, K: TagKind> Map<P, S, K> {
     // Places a cell in an open map.
     fn place_open(&mut self, code: u32, tag: K) -> Result<(), Refusal>
         requires { self.old.plain.phase ≡ Phase.Open }
-        ensures fixed { Fixed (shown P.NodePool S.TagStore self.old) (shown P.NodePool S.TagStore self.new) }
-        ensures kept { Refused (answer result) (shown P.NodePool S.TagStore self.new ≡ shown P.NodePool S.TagStore self.old) }
+        ensures fixed { (P.NodePool.capacity self.new.pool ≡ P.NodePool.capacity self.old.pool) × (P.NodePool.behind self.new.pool ≡ P.NodePool.behind self.old.pool) × (S.TagStore.admits self.new.store ≡ S.TagStore.admits self.old.store) }
+        ensures kept { OnErr result ((P.NodePool.nodes self.new.pool ≡ P.NodePool.nodes self.old.pool) × (P.NodePool.memory self.new.pool ≡ P.NodePool.memory self.old.pool) × (S.TagStore.words self.new.store ≡ S.TagStore.words self.old.store) × (self.new.plain ≡ self.old.plain)) }
         ensures early { Early (place_early self.old.plain.phase self.old.plain.levels self.old.plain.last code) (answer result) }
-        ensures tells { PlaceTells K.TagKind.word_of code tag (shown P.NodePool S.TagStore self.old) (shown P.NodePool S.TagStore self.new) (answer result) }
+        ensures tells { (L : ℕ) (cells : List ℕ) (tags : List K) → OpenAs K.TagKind.word_of L cells tags self.old.plain.phase self.old.plain.levels self.old.plain.last (P.NodePool.nodes self.old.pool) self.old.plain.rows (S.TagStore.words self.old.store) → (answer result ≡ place_told L cells (P.NodePool.capacity self.old.pool) (S.TagStore.admits self.old.store) (S.TagStore.words self.old.store) code (K.TagKind.word_of tag)) × OnOk result (OpenAs K.TagKind.word_of L (cells ++ code ∷ []) (tags ++ tag ∷ []) self.new.plain.phase self.new.plain.levels self.new.plain.last (P.NodePool.nodes self.new.pool) self.new.plain.rows (S.TagStore.words self.new.store) × (P.NodePool.nodes self.new.pool ≡ below L cells code)) }
     {
         if code >= volume(self.plain.levels) {
             return Err(Refusal::Outside);
@@ -241,10 +240,10 @@ impl<P: NodePool, S: TagStore, K: TagKind> Map<P, S, K> {
 
     // Places a cell with its tag. The codes of the cells rise from call to call.
     pub fn place(&mut self, code: u32, tag: K) -> Result<(), Refusal>
-        ensures fixed { Fixed (shown P.NodePool S.TagStore self.old) (shown P.NodePool S.TagStore self.new) }
-        ensures kept { Refused (answer result) (shown P.NodePool S.TagStore self.new ≡ shown P.NodePool S.TagStore self.old) }
+        ensures fixed { (P.NodePool.capacity self.new.pool ≡ P.NodePool.capacity self.old.pool) × (P.NodePool.behind self.new.pool ≡ P.NodePool.behind self.old.pool) × (S.TagStore.admits self.new.store ≡ S.TagStore.admits self.old.store) }
+        ensures kept { OnErr result ((P.NodePool.nodes self.new.pool ≡ P.NodePool.nodes self.old.pool) × (P.NodePool.memory self.new.pool ≡ P.NodePool.memory self.old.pool) × (S.TagStore.words self.new.store ≡ S.TagStore.words self.old.store) × (self.new.plain ≡ self.old.plain)) }
         ensures early { Early (place_early self.old.plain.phase self.old.plain.levels self.old.plain.last code) (answer result) }
-        ensures tells { PlaceTells K.TagKind.word_of code tag (shown P.NodePool S.TagStore self.old) (shown P.NodePool S.TagStore self.new) (answer result) }
+        ensures tells { (L : ℕ) (cells : List ℕ) (tags : List K) → OpenAs K.TagKind.word_of L cells tags self.old.plain.phase self.old.plain.levels self.old.plain.last (P.NodePool.nodes self.old.pool) self.old.plain.rows (S.TagStore.words self.old.store) → (answer result ≡ place_told L cells (P.NodePool.capacity self.old.pool) (S.TagStore.admits self.old.store) (S.TagStore.words self.old.store) code (K.TagKind.word_of tag)) × OnOk result (OpenAs K.TagKind.word_of L (cells ++ code ∷ []) (tags ++ tag ∷ []) self.new.plain.phase self.new.plain.levels self.new.plain.last (P.NodePool.nodes self.new.pool) self.new.plain.rows (S.TagStore.words self.new.store) × (P.NodePool.nodes self.new.pool ≡ below L cells code)) }
     {
         match self.plain.phase {
             Phase::Void(refusal) => Err(refusal),
@@ -256,9 +255,9 @@ impl<P: NodePool, S: TagStore, K: TagKind> Map<P, S, K> {
     // Closes what is open and seals the map.
     fn seal_open(&mut self) -> Result<(), Refusal>
         requires { self.old.plain.phase ≡ Phase.Open }
-        ensures fixed { Fixed (shown P.NodePool S.TagStore self.old) (shown P.NodePool S.TagStore self.new) }
-        ensures kept { Refused (answer result) (shown P.NodePool S.TagStore self.new ≡ shown P.NodePool S.TagStore self.old) }
-        ensures tells { SealTells K.TagKind.word_of (shown P.NodePool S.TagStore self.old) (shown P.NodePool S.TagStore self.new) (answer result) }
+        ensures fixed { (P.NodePool.capacity self.new.pool ≡ P.NodePool.capacity self.old.pool) × (P.NodePool.behind self.new.pool ≡ P.NodePool.behind self.old.pool) × (S.TagStore.admits self.new.store ≡ S.TagStore.admits self.old.store) }
+        ensures kept { OnErr result ((P.NodePool.nodes self.new.pool ≡ P.NodePool.nodes self.old.pool) × (P.NodePool.memory self.new.pool ≡ P.NodePool.memory self.old.pool) × (S.TagStore.words self.new.store ≡ S.TagStore.words self.old.store) × (self.new.plain ≡ self.old.plain)) }
+        ensures tells { (L : ℕ) (cells : List ℕ) (tags : List K) → OpenAs K.TagKind.word_of L cells tags self.old.plain.phase self.old.plain.levels self.old.plain.last (P.NodePool.nodes self.old.pool) self.old.plain.rows (S.TagStore.words self.old.store) → (answer result ≡ seal_told L cells (P.NodePool.capacity self.old.pool)) × OnOk result (SealedAs K.TagKind.word_of L cells tags self.new.plain.phase self.new.plain.levels (P.NodePool.nodes self.new.pool) (S.TagStore.words self.new.store)) }
     {
         let Plain {
             levels,
@@ -281,10 +280,10 @@ impl<P: NodePool, S: TagStore, K: TagKind> Map<P, S, K> {
 
     // Ends the placing of cells: the list becomes the sealed list of the cells.
     pub fn seal(&mut self) -> Result<(), Refusal>
-        ensures fixed { Fixed (shown P.NodePool S.TagStore self.old) (shown P.NodePool S.TagStore self.new) }
-        ensures kept { Refused (answer result) (shown P.NodePool S.TagStore self.new ≡ shown P.NodePool S.TagStore self.old) }
+        ensures fixed { (P.NodePool.capacity self.new.pool ≡ P.NodePool.capacity self.old.pool) × (P.NodePool.behind self.new.pool ≡ P.NodePool.behind self.old.pool) × (S.TagStore.admits self.new.store ≡ S.TagStore.admits self.old.store) }
+        ensures kept { OnErr result ((P.NodePool.nodes self.new.pool ≡ P.NodePool.nodes self.old.pool) × (P.NodePool.memory self.new.pool ≡ P.NodePool.memory self.old.pool) × (S.TagStore.words self.new.store ≡ S.TagStore.words self.old.store) × (self.new.plain ≡ self.old.plain)) }
         ensures early { Early (seal_early self.old.plain.phase) (answer result) }
-        ensures tells { SealTells K.TagKind.word_of (shown P.NodePool S.TagStore self.old) (shown P.NodePool S.TagStore self.new) (answer result) }
+        ensures tells { (L : ℕ) (cells : List ℕ) (tags : List K) → OpenAs K.TagKind.word_of L cells tags self.old.plain.phase self.old.plain.levels self.old.plain.last (P.NodePool.nodes self.old.pool) self.old.plain.rows (S.TagStore.words self.old.store) → (answer result ≡ seal_told L cells (P.NodePool.capacity self.old.pool)) × OnOk result (SealedAs K.TagKind.word_of L cells tags self.new.plain.phase self.new.plain.levels (P.NodePool.nodes self.new.pool) (S.TagStore.words self.new.store)) }
     {
         match self.plain.phase {
             Phase::Void(refusal) => Err(refusal),

@@ -1,6 +1,7 @@
 // The open rows of a map that takes cells by rising code: the beginning of a record for each level.
-ghost use Rattle.std.specs.Prelude.{◌≡◌, ℕ, ◌+◌, ◌-◌, ◌%◌, ◌^◌, ◌<◌, min, set, count_ones, slice_set};
-ghost use Rattle.dag.specs.Rows.{empty_row};
+ghost use Rattle.std.specs.Prelude.{◌≡◌, ℕ, ◌+◌, ◌-◌, ◌%◌, ◌^◌, ◌<◌, min, count_ones, slice_index};
+ghost use Rattle.nodes.specs.Records.{none};
+ghost use Rattle.dag.specs.Rows.{empty_row, with_child};
 ghost use Rattle.voxels.specs.Stands.{EmptyRows};
 
 use nodes::node::{CHILDREN, NONE, Node};
@@ -35,10 +36,7 @@ impl OpenRow {
     // One more child, behind those that are there: its link, and the cells that it holds.
     pub(crate) fn take_child(&mut self, child: usize, link: u16, cells: u32)
         requires { child < 8 }
-        ensures level { self.new.node.level ≡ self.old.node.level }
-        ensures mask { self.old.node.mask < 2 ^ child → self.new.node.mask ≡ self.old.node.mask + 2 ^ child }
-        ensures links { self.new.node.links ≡ slice_set self.old.node.links child link }
-        ensures offsets { self.new.node.offsets ≡ slice_set self.old.node.offsets child self.old.count }
+        ensures node { self.old.node.mask < 2 ^ child → self.new.node ≡ with_child self.old.node child link self.old.count }
         ensures count { self.new.count ≡ min (self.old.count + cells) (2 ^ 32 - 1) }
     {
         self.node.mask = with_bit(self.node.mask, child);
@@ -50,10 +48,7 @@ impl OpenRow {
     // One more cell in a row of level 1, behind those that are there. A cell has no record, so its link stays none.
     pub(crate) fn take_cell(&mut self, child: usize)
         requires { child < 8 }
-        ensures level { self.new.node.level ≡ self.old.node.level }
-        ensures mask { self.old.node.mask < 2 ^ child → self.new.node.mask ≡ self.old.node.mask + 2 ^ child }
-        ensures links { self.new.node.links ≡ self.old.node.links }
-        ensures offsets { self.new.node.offsets ≡ slice_set self.old.node.offsets child (count_ones (self.old.node.mask % 2 ^ child)) }
+        ensures node { self.old.node.mask < 2 ^ child → slice_index self.old.node.links child ≡ none → self.new.node ≡ with_child self.old.node child none (count_ones (self.old.node.mask % 2 ^ child)) }
         ensures count { self.new.count ≡ min (self.old.count + 1) (2 ^ 32 - 1) }
     {
         self.node.offsets[child] = ones_below(self.node.mask, child);

@@ -5,7 +5,7 @@ ghost use Rattle.cells.specs.Boxes.{box_holds};
 ghost use Rattle.cells.specs.declared.boxes.CellBox.{CellBox};
 ghost use Rattle.voxels.specs.Visiting.{shrunk, shrunk_box, child_place, Near, Ready, Visits, Nothing};
 
-use crate::walk::step;
+use crate::walk::step_to;
 use cells::boxes::CellBox;
 use cells::hall::Cell;
 use nodes::pool::NodePool;
@@ -97,7 +97,7 @@ pub(crate) fn child_visit<P: NodePool>(
     if !meets(bounds, level, at) {
         return None;
     }
-    match step(pool, visit.node, level, i) {
+    match step_to(pool, visit.node, level, i) {
         None => None,
         Some(taken) => Some(Visit {
             level,

@@ -1,7 +1,8 @@
 // The walk from the root to a cell.
-ghost use Rattle.std.specs.Prelude.{◌≡◌, ◌+◌, ◌<◌, ◌≤◌, length, MatchOption};
+ghost use Rattle.std.specs.Prelude.{◌≡◌, ◌+◌, ◌<◌, ◌≤◌, false, length, MatchOption};
 ghost use Rattle.cells.specs.SubCubes.{child};
-ghost use Rattle.voxels.specs.Finds.{found, Shut, Goes};
+ghost use Rattle.dag.specs.Walk.{walk};
+ghost use Rattle.voxels.specs.Finds.{found, Goes, GoesTo, Shut};
 
 use nodes::pool::NodePool;
 
@@ -22,9 +23,9 @@ fn child_of(k: u32, code: u32) -> u32
 }
 
 // One step from record n of level k + 1 to a child, or absent where all of the child is free. On level 1 the step ends at the cell.
-pub(crate) fn step<P: NodePool>(pool: &P, n: usize, k: u32, i: u32) -> Option<StepTo>
+pub(crate) fn step_to<P: NodePool>(pool: &P, n: usize, k: u32, i: u32) -> Option<StepTo>
     requires { (k < 10) × ((n < length (P.NodePool.nodes pool.now)) × (i < 8)) }
-    ensures { MatchOption result (Shut (P.NodePool.nodes pool.now) k n i) (λ s. Goes (P.NodePool.nodes pool.now) k n i s.next s.offset) }
+    ensures { MatchOption result (Shut (P.NodePool.nodes pool.now) k n i) (λ s. GoesTo (P.NodePool.nodes pool.now) k n i s.next s.offset) }
 {
     if (pool.mask_at(n) >> i) % 2 == 0 {
         return None;
@@ -41,6 +42,14 @@ pub(crate) fn step<P: NodePool>(pool: &P, n: usize, k: u32, i: u32) -> Option<St
         return None;
     }
     Some(StepTo { next, offset })
+}
+
+// One step from record n of level k + 1, or absent where the code is free. On level 1 the step ends at the cell.
+fn step<P: NodePool>(pool: &P, n: usize, k: u32, code: u32) -> Option<StepTo>
+    requires { (k < 10) × (n < length (P.NodePool.nodes pool.now)) }
+    ensures { MatchOption result (walk (P.NodePool.nodes pool.now) (k + 1) n code ≡ false) (λ s. Goes (P.NodePool.nodes pool.now) k n code s.next s.offset) }
+{
+    step_to(pool, n, k, child_of(k, code))
 }
 
 // The rank of a code that the pool's list marks, or absent where the code is free.
@@ -60,7 +69,7 @@ pub(crate) fn rank_of<P: NodePool>(pool: &P, levels: u32, code: u32) -> Option<u
     let mut k = levels;
     while k > 0 {
         k -= 1;
-        let Some(taken) = step(pool, n, k, child_of(k, code)) else {
+        let Some(taken) = step(pool, n, k, code) else {
             return None;
         };
         n = taken.next;

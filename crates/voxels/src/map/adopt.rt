@@ -4,7 +4,7 @@ ghost use Rattle.dag.specs.Delivered.{marked};
 ghost use Rattle.voxels.specs.Adopts.{AllTags, TakesSealed, Verdict, tags_of};
 ghost use Rattle.voxels.specs.Phases.{void_by};
 ghost use Rattle.voxels.specs.Shown.{shown};
-ghost use Rattle.voxels.specs.Stands.{SealedAs};
+ghost use Rattle.voxels.specs.Shown.{ShowsSealed};
 
 use crate::judge::cells_of;
 use crate::map::Map;
@@ -59,7 +59,7 @@ impl<P: NodePool, S: TagStore, K: TagKind> Map<P, S, K> {
     pub fn adopt(levels: u32, pool: P, store: S) -> Map<P, S, K>
         ensures untouched { (result.pool ≡ pool) × (result.store ≡ store) }
         ensures reason { Verdict K.TagKind.reading levels (P.NodePool.nodes pool) (S.TagStore.words store) (void_by result.plain.phase) }
-        ensures stands { void_by result.plain.phase ≡ None → SealedAs K.TagKind.word_of levels (marked levels (P.NodePool.nodes pool)) (tags_of K.TagKind.reading (S.TagStore.words store)) (shown P.NodePool S.TagStore result) }
+        ensures stands { void_by result.plain.phase ≡ None → ShowsSealed K.TagKind.word_of levels (marked levels (P.NodePool.nodes pool)) (tags_of K.TagKind.reading (S.TagStore.words store)) (shown P.NodePool S.TagStore result) }
         ensures taken { TakesSealed K.TagKind.word_of levels (P.NodePool.nodes pool) (S.TagStore.words store) (shown P.NodePool S.TagStore result) }
     {
         let phase = Self::verdict(levels, &pool, &store);

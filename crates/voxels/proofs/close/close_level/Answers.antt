@@ -1,9 +1,8 @@
-use Rattle.std.proofs.Common.{◌%◌, sym, refl, ap, subst, arith}
+use Rattle.std.proofs.Common.{sym, refl, subst, arith}
 use Rattle.std.proofs.lemmas.Result.{err_from_is_err_and}
 use Rattle.dag.specs.Sealed.{Begins}
 use Rattle.dag.proofs.Growth.{begins_self, written_begins}
 use Rattle.voxels.specs.Stages.{row_at}
-use Rattle.voxels.proofs.Masks.{child_taken}
 use Rattle.voxels.proofs.Closing.{stage_next, stage_refused, top_moves, parent_moves}
 use Rattle.voxels.proofs.close.close_level.Goals as goal
 
@@ -41,7 +40,7 @@ returns-then-r-levels g c =
           (parent_moves c.args.levels c.args.last c.args.r c.in_ok-number.number c.args.rows.now c.empty.result
           (omega arith) (c.empty.ensures.node c.args.r refl) c.empty.ensures.count
           c.take_child.new.self c.place_of-child.result (omega arith) c.place_of-child.ensures
-          (λ h. child_taken _ c.take_child.new.self.node c.place_of-child.result _ _ c.take_child.ensures.level (c.take_child.ensures.mask h) c.take_child.ensures.links c.take_child.ensures.offsets) c.take_child.ensures.count)
+          c.take_child.ensures.node c.take_child.ensures.count)
           at;
     }
 

@@ -1,4 +1,4 @@
-use Rattle.std.proofs.Common.{◌≡◌, sym, ap, ◌∙◌, subst}
+use Rattle.std.proofs.Common.{sym, ap, ◌∙◌, subst}
 use Rattle.voxels.specs.Strict.{Took, tag_found}
 use Rattle.voxels.specs.Looks.{read}
 use Rattle.voxels.specs.Finds.{ranked}

@@ -1,6 +1,6 @@
-use Rattle.std.proofs.Common.{◌≡◌, suc, ◌+◌, ◌-◌, true, false, sym, refl, ap, ◌∙◌, subst, arith}
+use Rattle.std.proofs.Common.{◌≡◌, suc, ◌+◌, ◌-◌, true, sym, refl, ap, ◌∙◌, subst, arith}
 use Rattle.cells.specs.Boxes.{box_holds}
-use Rattle.voxels.specs.Visiting.{shrunk_box, child_place}
+use Rattle.voxels.specs.Visiting.{shrunk_box}
 use Rattle.voxels.proofs.Descent.{near_met, child_beside, child_free, child_visits}
 use Rattle.voxels.proofs.visit.child_visit.Goals as goal
 

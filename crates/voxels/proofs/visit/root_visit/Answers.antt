@@ -1,4 +1,4 @@
-use Rattle.std.proofs.Common.{◌≡◌, ◌-◌, ◌<◌, length, sym, refl, ap, ◌∙◌, arith}
+use Rattle.std.proofs.Common.{◌-◌, ◌<◌, length, sym, refl, ap, ◌∙◌, arith}
 use Rattle.cells.proofs.Codes.{levels_fit_lem}
 use Rattle.dag.specs.Rules.{node_at}
 use Rattle.voxels.proofs.Descent.{root_visits}

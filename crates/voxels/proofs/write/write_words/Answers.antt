@@ -1,5 +1,4 @@
-use Rattle.std.proofs.Common.{◌≡◌, ◌+◌, ◌-◌, ◌*◌, ◌<◌, ◌≤◌, length, get_or, take, drop, sym, refl, ap, ◌∙◌, subst, arith, rules}
-use Rattle.std.proofs.lemmas.Option.{slice_get-get_or}
+use Rattle.std.proofs.Common.{◌+◌, ◌-◌, ◌*◌, ◌<◌, length, sym, refl, ap, ◌∙◌, subst, arith, rules}
 use Rattle.nodes.specs.Format.{bytes_of}
 use Rattle.nodes.proofs.LowFirst.{length_bytes_of}
 use Rattle.nodes.proofs.Numbers.{part_long}

@@ -17,7 +17,7 @@ returns g c =
     record {
       untouched = (refl, refl);
       reason = told.reason;
-      stands = λ e. stands_marked word_of reading L ns words few g.met.K.TagKind.only _ (told.taken e) refl refl refl (subst (Verdict reading L ns words) e told.reason);
+      stands = λ e. stands_marked word_of reading L ns words few g.met.K.TagKind.only _ _ _ _ (told.taken e) refl refl refl (subst (Verdict reading L ns words) e told.reason);
       taken = λ cells tags fit set list is long.
           let e = no_reason word_of reading L ns words few _ told.reason fit (cells, set, list) (fits_sealed word_of reading L ns words few g.met.K.TagKind.back cells tags fit set list is long) in
           record { phase_is = told.taken e; levels_are = refl; set = set; list = list; words_are = is; tag_each = long };
