@@ -1,5 +1,5 @@
 -- What an answer tells of the checks before it.
-use Rattle.std.proofs.Common.{◌≡◌, ℕ, Bool, true, false, not, sym, refl, subst, arith}
+use Rattle.std.proofs.Common.{◌≡◌, ℕ, Bool, true, false, not, refl, arith}
 use Rattle.cells.specs.Refusals.{Answer, gives, refuses, refuse_if}
 
 -- where a call gave a value, the check before it did not refuse

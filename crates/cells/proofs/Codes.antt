@@ -1,6 +1,6 @@
 -- Codes of cells and cells of codes.
-use Rattle.std.proofs.Common.{◌≡◌, ℕ, zero, suc, ◌+◌, ◌-◌, ◌*◌, ◌/◌, ◌%◌, ◌^◌, ◌<◌, ◌≤◌, true, ◌⊎◌, sym, refl, ap, ◌∙◌, subst, inl, inr, ⊎_elim, lt_of_lt_of_le, add-zero, mod-lt, mod-eq_of_lt, add-mul, one-mul, pow-suc, div-add-mod', mul-suc, arith, pow-add}
-use native.Mathlib.Nat.{pow-zero, div-eq_of_lt-le, div-eq_of_lt, div-div-eq-div-mul, pow-le-pow_right}
+use Rattle.std.proofs.Common.{◌≡◌, ℕ, zero, suc, ◌+◌, ◌*◌, ◌/◌, ◌%◌, ◌^◌, ◌<◌, ◌≤◌, true, sym, refl, ◌∙◌, ⊎_elim, lt_of_lt_of_le, add-zero, mod-lt, mod-eq_of_lt, add-mul, one-mul, pow-suc, div-add-mod', mul-suc, arith, pow-add}
+use native.Mathlib.Nat.{div-eq_of_lt-le, div-eq_of_lt, div-div-eq-div-mul, pow-le-pow_right}
 use Rattle.std.proofs.lemmas.Nat.{shl_whole}
 use Rattle.std.proofs.lemmas.Bool.{cases_lt}
 use Rattle.std.proofs.lemmas.Bool.Decides.{nat_tests}

@@ -1,9 +1,9 @@
 -- Numbers by their digits, in any base.
-use Rattle.std.proofs.Common.{◌≡◌, ℕ, zero, suc, ◌+◌, ◌-◌, ◌*◌, ◌/◌, ◌%◌, ◌^◌, ◌<◌, ◌≤◌, ◌⊎◌, sym, refl, ap, ◌∙◌, subst, ap₂, inl, inr, ⊎_elim, mod-eq_of_lt, mul_assoc, mul_comm, add_comm, mul-pos, pow-suc, mul-one, add-one, arith, pow-add}
-use native.Mathlib.Nat.{pow-zero, pow-succ', add-mul-div_right, add-mul-mod_self_right, mod-one, div-eq_of_lt}
+use Rattle.std.proofs.Common.{◌≡◌, ℕ, zero, suc, ◌+◌, ◌-◌, ◌*◌, ◌/◌, ◌%◌, ◌^◌, ◌<◌, sym, refl, ap, ◌∙◌, subst, ap₂, ⊎_elim, mod-eq_of_lt, mul_assoc, add_comm, mul-pos, pow-suc, add-one, arith, pow-add}
+use native.Mathlib.Nat.{pow-zero, pow-succ', add-mul-div_right, add-mul-mod_self_right, mod-one}
 use lib.Arith.{digits_lt, digits_div, mod-mul}
 use Rattle.std.proofs.lemmas.Bool.{cases_order}
-use Rattle.cells.specs.Hall.{from_digits, bit}
+use Rattle.cells.specs.Hall.{from_digits}
 
 pub base_pos : (b n : ℕ) → 0 < b → 0 < b ^ n
 base_pos b zero h = rw pow-zero (omega arith)

@@ -1,5 +1,5 @@
 -- The hall in cells: levels, sides, the code of a cell and the cell of a code.
-use Rattle.std.specs.Prelude.{◌≡◌, ℕ, zero, suc, ◌+◌, ◌*◌, ◌/◌, ◌%◌, ◌^◌, ◌<◌, Bool, ◌&&◌, nat_le, nat_lt}
+use Rattle.std.specs.Prelude.{◌≡◌, ℕ, zero, suc, ◌+◌, ◌*◌, ◌/◌, ◌%◌, ◌^◌, Bool, ◌&&◌, nat_le, nat_lt}
 use Rattle.cells.specs.declared.hall.Cell.{Cell}
 
 -- a hall has 1 to 10 levels

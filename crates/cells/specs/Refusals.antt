@@ -1,5 +1,5 @@
 -- The table of refusals: each refusal's number, and what a call answers.
-use Rattle.std.specs.Prelude.{ℕ, Bool, true, false, List, [], ◌∷◌, Ok, Err, Result}
+use Rattle.std.specs.Prelude.{ℕ, Bool, true, false, Ok, Err, Result}
 use Rattle.cells.specs.declared.refusal.Refusal.{Refusal}
 use Rattle.cells.specs.declared.refusal.Refusal.TheVariants.{Levels, State, Outside, NotAbove, NothingThere, PoolFull, StoreFull, CornersCrossed, NotSealed, TagsUnfit, TagOutside, BadLine, TooManyBoxes, BufferShort}
 

@@ -1,8 +1,7 @@
 -- Counting cells over intervals of codes.
-use Rattle.std.proofs.Common.{◌≡◌, ℕ, zero, suc, ◌+◌, ◌-◌, ◌*◌, ◌^◌, ◌<◌, ◌≤◌, Bool, true, false, cond, ◌&&◌, ◌||◌, eqb, ltb, leb, ◌⊎◌, List, [], ◌∷◌, ◌++◌, sym, refl, ap, ◌∙◌, subst, ap₂, inl, inr, ⊎_elim, arith}
-use Rattle.std.proofs.lemmas.Bool.{ltb-true, ltb-false, lt-ltb, le-ltb, eqb-true, eq-eqb, cases_lt}
+use Rattle.std.proofs.Common.{◌≡◌, ℕ, ◌+◌, ◌≤◌, cond, ◌&&◌, ◌||◌, eqb, ltb, leb, List, [], ◌∷◌, refl, ap, ◌∙◌, arith}
 use Rattle.std.proofs.lemmas.Bool.Decides.{nat_tests}
-use Rattle.dag.specs.Sets.{count, holds, has, Rising}
+use Rattle.dag.specs.Sets.{count, holds, has}
 
 one_split : (c a b d : ℕ) → a ≤ b → b ≤ d → cond (leb a c && ltb c d) 1 0 ≡ cond (leb a c && ltb c b) 1 0 + cond (leb b c && ltb c d) 1 0
 one_split c a b d h l = grind (arith, nat_tests)

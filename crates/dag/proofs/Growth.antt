@@ -1,12 +1,12 @@
 -- The list only grows.
-use Rattle.std.proofs.Common.{◌≡◌, ℕ, zero, suc, ◌+◌, ◌-◌, ◌<◌, ◌≤◌, Bool, true, false, cond, List, [], ◌∷◌, ◌++◌, length, sym, refl, ap, ◌∙◌, subst, append_assoc, suc-add, zero-add, arith}
+use Rattle.std.proofs.Common.{◌≡◌, ℕ, zero, suc, ◌+◌, ◌<◌, ◌≤◌, List, [], ◌∷◌, ◌++◌, length, sym, refl, ap, ◌∙◌, subst, append_assoc, suc-add, zero-add, arith}
 use Rattle.std.proofs.lemmas.Bool.{cond_both}
 use Rattle.std.proofs.lemmas.List.{append-nil, length-append, get_or_append_left}
 use Rattle.cells.specs.SubCubes.{sub_cube}
 use Rattle.nodes.specs.Records.{blank}
 use Rattle.nodes.specs.declared.node.Node.{Node}
 use Rattle.dag.specs.Rules.{node_at}
-use Rattle.dag.specs.Records.{lowest, occupied, record_of}
+use Rattle.dag.specs.Records.{occupied, record_of}
 use Rattle.dag.specs.Sealed.{Begins, there, written, turn, ends, closing, below}
 
 pub begins_self : (ns : List Node) → Begins ns ns

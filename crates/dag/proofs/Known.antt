@@ -1,14 +1,13 @@
 -- Sub-cubes whose records are in the list.
-use Rattle.std.proofs.Common.{◌≡◌, ℕ, zero, suc, ◌+◌, ◌-◌, ◌*◌, ◌^◌, ◌<◌, ◌≤◌, Bool, true, false, cond, ltb, ◌⊎◌, List, [], ◌∷◌, ◌++◌, length, sym, refl, ap, ◌∙◌, subst, ap₂, inl, inr, ⊎_elim, add-zero, arith}
-use Rattle.std.proofs.lemmas.Bool.{cond_both, ltb-true, ltb-false, lt-ltb, cond-true, cond-false, cases_Bool, cases_lt}
+use Rattle.std.proofs.Common.{◌≡◌, ℕ, zero, suc, ◌+◌, ◌*◌, ◌<◌, Bool, true, false, cond, List, [], ◌∷◌, ◌++◌, length, sym, refl, ap, ◌∙◌, subst, ⊎_elim, arith}
+use Rattle.std.proofs.lemmas.Bool.{cond_both, ltb-true, ltb-false, cond-true, cases_lt}
 use Rattle.std.proofs.lemmas.List.{length-append, length_push}
 use Rattle.nodes.specs.Records.{none}
 use Rattle.nodes.specs.declared.node.Node.{Node}
-use Rattle.dag.specs.Rules.{node_at}
 use Rattle.dag.specs.Records.{lowest, occupied, node_of, link_to, record_of, eight}
 use Rattle.dag.specs.Sealed.{Begins, there, written, turn}
-use Rattle.dag.proofs.Lowest.{lowest_at, lowest_stays, lowest_new, lowest_most}
-use Rattle.dag.proofs.Growth.{begins_self, begins_trans, written_begins, turn_begins}
+use Rattle.dag.proofs.Lowest.{lowest_stays, lowest_new}
+use Rattle.dag.proofs.Growth.{begins_self, begins_trans, turn_begins}
 use Rattle.dag.proofs.Visits.{each, visit}
 
 -- a choice that is only made where the test is true

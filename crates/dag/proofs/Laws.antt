@@ -1,23 +1,22 @@
 -- The laws of the sealed list.
-use Rattle.std.proofs.Common.{◌≡◌, ℕ, zero, suc, ◌+◌, ◌-◌, ◌*◌, ◌/◌, ◌^◌, ◌<◌, ◌≤◌, Bool, true, false, ◌&&◌, eqb, ltb, ◌⊎◌, List, [], ◌∷◌, length, sym, refl, ap, ◌∙◌, subst, ap₂, inl, inr, ⊎_elim, mod-lt, zero-mul, sub-add_cancel, arith}
+use Rattle.std.proofs.Common.{◌≡◌, ℕ, zero, suc, ◌+◌, ◌-◌, ◌/◌, ◌^◌, ◌<◌, ◌≤◌, true, false, List, [], length, sym, refl, ap, ◌∙◌, subst, ⊎_elim, mod-lt, zero-mul, arith}
 use native.Mathlib.Nat.{div-eq_of_lt}
-use Rattle.std.proofs.lemmas.Bool.{cases_lt, cases_Bool, lt-ltb, le-ltb, eq-eqb, and_from, both_ways}
+use Rattle.std.proofs.lemmas.Bool.{cases_lt, cases_Bool, lt-ltb, eq-eqb}
 use Rattle.cells.specs.Hall.{bit}
 use Rattle.cells.specs.SubCubes.{sub_cube}
-use Rattle.nodes.specs.Records.{none}
 use Rattle.nodes.specs.declared.node.Node.{Node}
 use Rattle.dag.specs.Sets.{count, holds, has}
-use Rattle.dag.specs.Rules.{node_at, link_of, NodeRules, UpperLinks, Root}
-use Rattle.dag.specs.Walk.{walk, root, marks, rank, path, total}
+use Rattle.dag.specs.Rules.{node_at, NodeRules, UpperLinks, Root}
+use Rattle.dag.specs.Walk.{root, marks, rank}
 use Rattle.dag.specs.Records.{first, lowest, occupied, record_of}
 use Rattle.dag.specs.Sealed.{Begins, below, sealed}
 use Rattle.dag.specs.Laws.{Nameable, KeepsRules, NoneTwice, MarksCells, RanksCells, Grows, Ends, NoneFromNone}
 use Rattle.dag.proofs.Counts.{has_holds}
 use Rattle.dag.proofs.Growth.{below_begins}
 use Rattle.dag.proofs.Known.{ChildrenKnown}
-use Rattle.dag.proofs.Sound.{Sound, Fit}
+use Rattle.dag.proofs.Sound.{Fit}
 use Rattle.dag.proofs.Marks.{walk_is, rank_is, occupied_code, free_code}
-use Rattle.dag.proofs.Whole.{UpTo, sealed_sound, sealed_distinct, sealed_levels, sealed_free, sealed_known, root_inside, root_node}
+use Rattle.dag.proofs.Whole.{sealed_sound, sealed_distinct, sealed_levels, sealed_free, sealed_known, root_inside, root_node}
 
 -- ---- rules
 

@@ -1,7 +1,7 @@
 -- What a walk through known records finds, and the rank it adds up.
-use Rattle.std.proofs.Common.{◌≡◌, ℕ, zero, suc, ◌+◌, ◌-◌, ◌*◌, ◌/◌, ◌%◌, ◌^◌, ◌<◌, ◌≤◌, Bool, true, false, cond, not, ◌&&◌, eqb, ltb, ◌⊎◌, List, [], ◌∷◌, ◌++◌, length, sym, refl, ap, ◌∙◌, subst, ap₂, inl, inr, ⊎_elim, add-zero, mod-lt, pow-suc, mul-one, div-one, add-one, arith}
-use native.Mathlib.Nat.{pow-zero, div-div-eq-div-mul}
-use Rattle.std.proofs.lemmas.Bool.{cond-true, cond-false, cases_Bool, lt-ltb, le-ltb, ltb-true, ltb-false, eq-eqb, ne_eqb, and_from, and_left, and_right}
+use Rattle.std.proofs.Common.{◌≡◌, ℕ, zero, suc, ◌+◌, ◌-◌, ◌*◌, ◌/◌, ◌%◌, ◌^◌, ◌<◌, ◌≤◌, true, false, cond, not, List, length, sym, refl, ap, ◌∙◌, subst, ap₂, ⊎_elim, add-zero, mod-lt, pow-suc, mul-one, div-one, arith}
+use native.Mathlib.Nat.{div-div-eq-div-mul}
+use Rattle.std.proofs.lemmas.Bool.{cond-true, cases_Bool, lt-ltb, le-ltb, ltb-true, ltb-false, eq-eqb, ne_eqb, and_from, and_left, and_right}
 use Rattle.cells.specs.Hall.{bit}
 use Rattle.cells.specs.SubCubes.{sub_cube, child}
 use Rattle.nodes.specs.Records.{none}
@@ -14,7 +14,7 @@ use Rattle.dag.proofs.Counts.{count_split, count_wider}
 use Rattle.dag.proofs.Spans.{span_from, span_to}
 use Rattle.dag.proofs.Known.{Known, ChildrenKnown}
 use Rattle.dag.proofs.Parts.{mask_bit, link_is, offset_is, first_more}
-use Rattle.dag.proofs.Sound.{Sound, Fit, link_node}
+use Rattle.dag.proofs.Sound.{Sound, link_node}
 use Rattle.dag.proofs.Visits.{times_eight}
 
 -- ---- a code in its sub-cubes

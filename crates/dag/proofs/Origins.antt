@@ -1,13 +1,12 @@
 -- Every record of the sealed list is the record of an occupied sub-cube of the hall, and no record is there twice.
-use Rattle.std.proofs.Common.{◌≡◌, ℕ, zero, suc, ◌+◌, ◌*◌, ◌<◌, ◌≤◌, true, ◌⊎◌, List, [], ◌∷◌, ◌++◌, length, sym, refl, ap, ◌∙◌, subst, inl, inr, ⊎_elim, arith}
-use Rattle.std.proofs.lemmas.Bool.{cond_both, ltb-false, cases_lt}
+use Rattle.std.proofs.Common.{◌≡◌, ℕ, zero, suc, ◌+◌, ◌*◌, ◌<◌, true, ◌⊎◌, List, [], ◌∷◌, ◌++◌, length, sym, refl, ◌∙◌, subst, inl, inr, ⊎_elim, arith}
+use Rattle.std.proofs.lemmas.Bool.{cond_both, cases_lt}
 use Rattle.std.proofs.lemmas.List.{length_push, get_or_push, get_or_append_left}
 use Rattle.nodes.specs.Records.{blank}
 use Rattle.nodes.specs.declared.node.Node.{Node}
 use Rattle.dag.specs.Rules.{node_at}
-use Rattle.dag.specs.Records.{lowest, occupied, record_of}
+use Rattle.dag.specs.Records.{occupied, record_of}
 use Rattle.dag.specs.Sealed.{Begins, there, written, turn, sealed}
-use Rattle.dag.proofs.Lowest.{lowest_stays, lowest_new}
 use Rattle.dag.proofs.Visits.{each, visit, sealed_visit}
 use Rattle.dag.proofs.Known.{Known, ChildrenKnown, known_stays, record_stays, visit_begins, visit_known}
 

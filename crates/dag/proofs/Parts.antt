@@ -1,11 +1,10 @@
 -- The parts of a sub-cube's record.
-use Rattle.std.proofs.Common.{◌≡◌, ℕ, zero, suc, ◌+◌, ◌-◌, ◌*◌, ◌/◌, ◌%◌, ◌^◌, ◌<◌, ◌≤◌, Bool, true, false, cond, ltb, ◌⊎◌, List, [], ◌∷◌, sym, refl, ap, ◌∙◌, subst, inl, inr, ⊎_elim, add-zero, add_assoc, add-suc, add-mul, mul-one, mul-add, add-one, arith}
+use Rattle.std.proofs.Common.{◌≡◌, ℕ, zero, suc, ◌+◌, ◌*◌, ◌%◌, ◌^◌, ◌<◌, ◌≤◌, true, cond, List, refl, ap, ◌∙◌, subst, ⊎_elim, add-zero, add-mul, mul-add, arith}
 use native.Mathlib.Nat.{zero-div}
 use Rattle.std.proofs.lemmas.Bool.{cond_both, ltb-true, lt-ltb, cases_lt}
-use Rattle.cells.specs.Hall.{bit, from_digits}
-use Rattle.cells.proofs.Digits.{digit_at, digits_below, base_pos}
+use Rattle.cells.specs.Hall.{bit}
+use Rattle.cells.proofs.Digits.{digit_at}
 use Rattle.nodes.specs.Records.{none, of_child}
-use Rattle.nodes.specs.declared.node.Node.{Node}
 use Rattle.dag.specs.Sets.{count}
 use Rattle.dag.specs.Rules.{link_of, offset_of}
 use Rattle.dag.specs.Records.{first, occupied, eight, node_of}

@@ -1,17 +1,16 @@
 -- Every record of a growing list keeps the node rules.
-use Rattle.std.proofs.Common.{◌≡◌, ℕ, zero, suc, ◌+◌, ◌-◌, ◌*◌, ◌^◌, ◌<◌, ◌≤◌, Bool, true, false, cond, ◌⊎◌, List, [], ◌∷◌, ◌++◌, length, sym, refl, ap, ◌∙◌, subst, inl, inr, ⊎_elim, add-one, arith}
-use Rattle.std.proofs.lemmas.Bool.{cond_both, cond-true, cond-false, cases_lt, cases_Bool}
+use Rattle.std.proofs.Common.{◌≡◌, ℕ, zero, suc, ◌+◌, ◌*◌, ◌<◌, ◌≤◌, Bool, true, false, cond, List, [], ◌∷◌, ◌++◌, length, sym, refl, ap, ◌∙◌, subst, ⊎_elim, add-one, arith}
+use Rattle.std.proofs.lemmas.Bool.{cond_both, cond-true, cond-false, cases_lt}
 use Rattle.std.proofs.lemmas.List.{length_push, get_or_push, get_or_append_left}
 use Rattle.cells.specs.Hall.{bit}
 use Rattle.nodes.specs.Records.{none, blank}
 use Rattle.nodes.specs.declared.node.Node.{Node}
 use Rattle.dag.specs.Rules.{node_at, link_of}
-use Rattle.dag.specs.Records.{lowest, occupied, link_to, record_of}
-use Rattle.dag.specs.Sealed.{Begins, there, written, turn}
-use Rattle.dag.proofs.Lowest.{lowest_at, lowest_there, lowest_stays, lowest_new}
-use Rattle.dag.proofs.Growth.{begins_self, begins_trans, begins_node, begins_length, written_begins, turn_begins}
-use Rattle.dag.proofs.Visits.{each, visit}
-use Rattle.dag.proofs.Known.{Known, ChildrenKnown, visit_begins, visit_known, each_begins, known_stays}
+use Rattle.dag.specs.Records.{occupied, link_to, record_of}
+use Rattle.dag.specs.Sealed.{Begins}
+use Rattle.dag.proofs.Lowest.{lowest_at}
+use Rattle.dag.proofs.Growth.{begins_node}
+use Rattle.dag.proofs.Known.{Known, ChildrenKnown}
 use Rattle.dag.proofs.Parts.{mask_bit, link_is, mask_some}
 
 -- a record with number n keeps the rules in a list, but for what a link that means none asks

@@ -1,12 +1,11 @@
 -- Going through the codes of a sub-cube is going through those of its eight children, and then taking its own turn.
-use Rattle.std.proofs.Common.{◌≡◌, ℕ, zero, suc, ◌+◌, ◌-◌, ◌*◌, ◌/◌, ◌%◌, ◌^◌, ◌<◌, ◌≤◌, Bool, true, false, cond, eqb, List, [], ◌∷◌, ◌++◌, sym, refl, ap, ◌∙◌, subst, ap₂, add-zero, add_assoc, add-suc, mod-eq_of_lt, mul_assoc, suc-mul, mul_comm, add-mul, pow-suc, zero-add, zero-mul, add-one, arith}
+use Rattle.std.proofs.Common.{◌≡◌, ℕ, zero, suc, ◌+◌, ◌-◌, ◌*◌, ◌%◌, ◌^◌, ◌<◌, ◌≤◌, true, false, List, [], sym, refl, ap, ◌∙◌, subst, ap₂, add-zero, add_assoc, add-suc, mod-eq_of_lt, mul_assoc, suc-mul, mul_comm, add-mul, zero-add, zero-mul, arith}
 use native.Mathlib.Nat.{pow-succ', mul-add-mod_self_right, mod_self}
 use lib.Arith.{digits_div}
 use Rattle.std.proofs.lemmas.Bool.{eq-eqb, ne_eqb}
 use Rattle.cells.specs.SubCubes.{sub_cube}
 use Rattle.cells.proofs.Digits.{base_pos}
 use Rattle.nodes.specs.declared.node.Node.{Node}
-use Rattle.dag.specs.Records.{first}
 use Rattle.dag.specs.Sealed.{turn, ends, closing, below, sealed}
 
 -- the list after the turns of levels 1 to k at n codes from a on

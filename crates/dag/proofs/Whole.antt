@@ -1,24 +1,18 @@
 -- What holds of a list that visits have built, and of the sealed list.
-use Rattle.std.proofs.Common.{◌≡◌, ℕ, zero, suc, ◌+◌, ◌-◌, ◌*◌, ◌/◌, ◌^◌, ◌<◌, ◌≤◌, Bool, true, false, cond, ◌&&◌, eqb, ltb, ◌⊎◌, List, [], ◌∷◌, ◌++◌, length, sym, refl, ap, ◌∙◌, subst, inl, inr, ⊎_elim, one-mul, zero-mul, arith}
-use native.Mathlib.Nat.{div-eq_of_lt}
-use Rattle.std.proofs.lemmas.Bool.{cond_both, cond-true, cond-false, cases_lt, cases_Bool, lt-ltb, le-ltb, ltb-false, eq-eqb, and_from}
+use Rattle.std.proofs.Common.{◌≡◌, ℕ, zero, suc, ◌+◌, ◌*◌, ◌<◌, ◌≤◌, true, false, List, [], ◌∷◌, ◌++◌, length, sym, refl, ap, ◌∙◌, subst, ⊎_elim, arith}
+use Rattle.std.proofs.lemmas.Bool.{cond_both, cond-true, cond-false, cases_lt, le-ltb, ltb-false}
 use Rattle.std.proofs.lemmas.List.{length_push, get_or_push, get_or_append_left}
-use Rattle.cells.specs.SubCubes.{sub_cube}
-use Rattle.nodes.specs.Records.{none, blank}
+use Rattle.nodes.specs.Records.{blank}
 use Rattle.nodes.specs.declared.node.Node.{Node}
-use Rattle.dag.specs.Sets.{count, holds, has}
-use Rattle.dag.specs.Rules.{node_at, link_of, NodeRules}
-use Rattle.dag.specs.Walk.{walk, root, marks, rank}
-use Rattle.dag.specs.Records.{first, lowest, occupied, link_to, record_of}
-use Rattle.dag.specs.Sealed.{Begins, there, written, turn, sealed}
-use Rattle.dag.proofs.Counts.{has_holds, count_split, count_wider}
-use Rattle.dag.proofs.Lowest.{lowest_at, lowest_there, lowest_stays, lowest_new, lowest_most}
-use Rattle.dag.proofs.Growth.{begins_node}
+use Rattle.dag.specs.Rules.{node_at}
+use Rattle.dag.specs.Walk.{root}
+use Rattle.dag.specs.Records.{lowest, occupied, record_of}
+use Rattle.dag.specs.Sealed.{there, written, turn, sealed}
+use Rattle.dag.proofs.Lowest.{lowest_at, lowest_stays, lowest_new}
 use Rattle.dag.proofs.Visits.{each, visit, sealed_visit}
-use Rattle.dag.proofs.Known.{Known, ChildrenKnown, visit_known, each_known, record_stays, known_stays}
+use Rattle.dag.proofs.Known.{Known, ChildrenKnown, visit_known, each_known, record_stays}
 use Rattle.dag.proofs.Empty.{visit_free}
-use Rattle.dag.proofs.Sound.{Fit, Sound, sound_none, sound_push, record_fits}
-use Rattle.dag.proofs.Marks.{walk_is, rank_is, occupied_code}
+use Rattle.dag.proofs.Sound.{Sound, sound_none, sound_push, record_fits}
 
 -- ---- one rule for what every written record keeps true
 

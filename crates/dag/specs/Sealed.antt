@@ -1,5 +1,5 @@
 -- The sealed list.
-use Rattle.std.specs.Prelude.{◌≡◌, ℕ, zero, suc, ◌+◌, ◌/◌, ◌%◌, ◌^◌, Bool, cond, List, [], ◌∷◌, ◌++◌, length, ◌==◌, nat_lt}
+use Rattle.std.specs.Prelude.{◌≡◌, ℕ, zero, suc, ◌+◌, ◌%◌, ◌^◌, Bool, cond, List, [], ◌∷◌, ◌++◌, length, ◌==◌, nat_lt}
 use Rattle.cells.specs.SubCubes.{sub_cube}
 use Rattle.nodes.specs.declared.node.Node.{Node}
 use Rattle.dag.specs.Records.{lowest, occupied, record_of}

@@ -1,5 +1,5 @@
 -- The report, piece by piece.
-use Rattle.std.proofs.Common.{◌≡◌, ℕ, zero, suc, ◌+◌, ◌<◌, ◌≤◌, List, [], ◌∷◌, ◌++◌, length, string_bytes, sym, refl, ap, ◌∙◌, subst, ap₂, append_assoc, add-zero, arith}
+use Rattle.std.proofs.Common.{◌≡◌, ℕ, ◌+◌, ◌<◌, ◌≤◌, List, [], ◌∷◌, ◌++◌, length, string_bytes, sym, refl, ap, ◌∙◌, append_assoc, arith}
 use Rattle.cells.specs.Refusals.{Answer, gives, refuses}
 use Rattle.text.specs.Pieces.{pieces}
 use Rattle.text.proofs.Cuts.{first_piece}

@@ -1,5 +1,5 @@
 -- A report that is being written.
-use Rattle.std.specs.Prelude.{◌≡◌, ℕ, ◌+◌, ◌++◌, string_bytes}
+use Rattle.std.specs.Prelude.{◌≡◌, ◌+◌, ◌++◌, string_bytes}
 use Rattle.cells.specs.Refusals.{Answer}
 use Rattle.locate.specs.declared.line.Place.{Place}
 use Rattle.locate.specs.declared.report.Draft.{Draft}

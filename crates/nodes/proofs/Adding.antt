@@ -1,5 +1,5 @@
 -- Adding to a pool that has room.
-use Rattle.std.proofs.Common.{◌≡◌, ℕ, ◌<◌, false, List, [], ◌∷◌, ◌++◌, length, sym, ap, ◌∙◌}
+use Rattle.std.proofs.Common.{◌≡◌, ℕ, ◌<◌, List, [], ◌∷◌, ◌++◌, length, sym, ap, ◌∙◌}
 use Rattle.std.proofs.lemmas.Bool.{lt-leb, cond-false}
 use Rattle.cells.specs.Refusals.{Answer, gives, refuse_if}
 use Rattle.nodes.specs.declared.node.Node.{Node}

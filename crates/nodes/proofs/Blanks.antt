@@ -1,5 +1,5 @@
 -- Memory with blanks: how writing changes it.
-use Rattle.std.proofs.Common.{◌≡◌, ℕ, suc, ◌+◌, ◌-◌, ◌<◌, ◌≤◌, min, List, [], ◌∷◌, ◌++◌, length, get_or, take, drop, set, replicate, sym, refl, ap, ◌∙◌, subst, add-one, arith}
+use Rattle.std.proofs.Common.{◌≡◌, ℕ, ◌+◌, ◌-◌, ◌<◌, ◌≤◌, List, [], ◌∷◌, ◌++◌, length, take, drop, set, replicate, sym, ap, ◌∙◌, subst, add-one, arith}
 use native.Mathlib.Nat.{sub_self}
 use borrow.Rule.Slice.PartMut.{put_mid}
 use Rattle.std.proofs.lemmas.List.{append_assoc, length-take, length-take-le, length-drop, length-append, length-replicate, take-append-drop, take_at, drop_at, drop-append-le, drop-drop, drop-replicate, set-append_right, set_split, drop_more, replicate_more, replicate-append-replicate}

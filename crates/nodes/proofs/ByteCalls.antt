@@ -1,8 +1,8 @@
 -- The byte pool's memory after each call.
-use Rattle.std.proofs.Common.{◌≡◌, ℕ, ◌+◌, ◌-◌, ◌*◌, ◌/◌, ◌<◌, ◌≤◌, List, [], ◌∷◌, ◌++◌, length, get_or, take, drop, sym, refl, ap, ◌∙◌, subst, arith}
+use Rattle.std.proofs.Common.{◌≡◌, ℕ, ◌+◌, ◌*◌, ◌/◌, ◌<◌, ◌≤◌, List, [], ◌∷◌, ◌++◌, length, take, drop, sym, refl, ap, ◌∙◌, subst, arith}
 use Rattle.std.proofs.lemmas.List.{length-take-le, take_at}
 use Rattle.nodes.specs.declared.node.Node.{Node}
-use Rattle.nodes.specs.Format.{Fitting, node_bytes, read_node, read_nodes, written}
+use Rattle.nodes.specs.Format.{Fitting, node_bytes, read_nodes, written}
 use Rattle.nodes.specs.Pools.{capped}
 use Rattle.nodes.specs.Memory.{laid}
 use Rattle.nodes.proofs.Blanks.{InOrder, Leaves, over, put, made, cut_back, put_on}

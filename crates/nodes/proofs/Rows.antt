@@ -3,9 +3,9 @@ use Rattle.std.proofs.Common.{◌≡◌, ℕ, ◌+◌, ◌<◌, ◌≤◌, List,
 use Rattle.std.proofs.lemmas.List.{take-take, get_or-take, get_or_default, get_or_past, length-take}
 use Rattle.nodes.specs.declared.node.Node.{Node}
 use Rattle.nodes.specs.Records.{blank}
-use Rattle.nodes.specs.Pools.{capped, most}
+use Rattle.nodes.specs.Pools.{capped}
 use Rattle.nodes.specs.Memory.{laid}
-use Rattle.nodes.proofs.Blanks.{InOrder, Leaves, over, put, set_put, made, cut_back, put_on}
+use Rattle.nodes.proofs.Blanks.{InOrder, Leaves, over, set_put, made, cut_back, put_on}
 
 -- what a call leaves of the rows m: the list, the capacity, the blanks and what lies behind
 pub record Rows (m m' : List Node) (list : List Node) (count : ℕ) : Type 0 where

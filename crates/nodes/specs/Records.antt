@@ -1,5 +1,5 @@
 -- Node records.
-use Rattle.std.specs.Prelude.{ℕ, cond, List, [], ◌∷◌, replicate, nat_lt, slice_index}
+use Rattle.std.specs.Prelude.{ℕ, cond, List, replicate, nat_lt, slice_index}
 use Rattle.nodes.specs.declared.node.Node.{Node}
 
 -- a record has eight children

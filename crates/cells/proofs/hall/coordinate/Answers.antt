@@ -1,4 +1,4 @@
-use Rattle.std.proofs.Common.{◌+◌, ◌*◌, sym, refl, ap, ◌∙◌, arith}
+use Rattle.std.proofs.Common.{◌+◌, ◌*◌, sym, ap, ◌∙◌, arith}
 use Rattle.cells.specs.Hall.{axis, bit}
 use Rattle.cells.proofs.Digits.{digits_none}
 use Rattle.cells.proofs.Codes.{axis_more, axis_fits}

@@ -1,4 +1,4 @@
-use Rattle.std.proofs.Common.{◌≡◌, ◌^◌, ◌<◌, true, sym, subst}
+use Rattle.std.proofs.Common.{◌≡◌, true, sym, subst}
 use Rattle.cells.specs.Hall.{cell_fits, cell_at, code_of}
 use Rattle.cells.proofs.Codes.{cell_back, axis_below, cell_fits_back, in_sub_cubes}
 use Rattle.cells.proofs.hall.deinterleave.Goals as goal

@@ -1,5 +1,4 @@
 use Rattle.std.proofs.Common.{◌+◌, ◌-◌, ◌*◌, refl, ◌∙◌, arith, length-set, rules}
-use Rattle.nodes.proofs.LowFirst.{value_under}
 use Rattle.nodes.proofs.Numbers.{reads_none, reads_more, reads_all, all_bytes}
 use Rattle.nodes.proofs.format.offsets.Goals as goal
 

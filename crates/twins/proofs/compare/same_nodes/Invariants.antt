@@ -1,6 +1,5 @@
 use Rattle.std.proofs.Common.{◌≡◌, ℕ, ◌<◌, get_or}
 use Rattle.nodes.specs.Records.{blank}
-use Rattle.voxels.specs.Shown.{shown}
 use Rattle.twins.proofs.compare.same_nodes.Given as goal
 
 -- the records that were passed are the same

@@ -1,5 +1,5 @@
 use Rattle.std.proofs.Common.{rules}
-use Rattle.nodes.proofs.Rows.{Rows, rows_made}
+use Rattle.nodes.proofs.Rows.{rows_made}
 use Rattle.nodes.proofs.row_pool.RowPool.with_count.Goals as goal
 
 pub invariant_of-result : goal.invariant_of-result

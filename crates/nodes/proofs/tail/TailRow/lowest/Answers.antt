@@ -1,4 +1,4 @@
-use Rattle.std.proofs.Common.{arith, rules}
+use Rattle.std.proofs.Common.{rules}
 use Rattle.nodes.proofs.Finds.{lowest_none, lowest_some, found_inside}
 use Rattle.nodes.proofs.tail.TailRow.lowest.Goals as goal
 
