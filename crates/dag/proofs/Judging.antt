@@ -1,6 +1,6 @@
 -- A list passes exactly if some set of cells seals to it.
 use Rattle.std.proofs.Common.{◌≡◌, ℕ, zero, suc, ◌+◌, ◌*◌, ◌^◌, ◌<◌, ◌≤◌, Bool, true, false, cond, ◌&&◌, eqb, ltb, leb, List, [], ◌∷◌, ◌++◌, length, take, sym, refl, ap, ◌∙◌, subst, ap₂, ⊎_elim, one-mul, zero-add, zero-mul, add-one, arith}
-use Rattle.std.specs.List.{AllByRecursion as All}
+use Rattle.std.specs.List.{AllByRecursion}
 use Rattle.std.proofs.lemmas.List.{get_or_push, length_push, take_more, take_all, length-take-le}
 use Rattle.std.proofs.lemmas.Bool.{cases_lt, cases_Bool, lt-ltb, le-ltb, eq-eqb, cond-true, cond-false, cond_both, both_ways}
 use Rattle.std.proofs.lemmas.Bool.Decides.{nat_tests}
@@ -210,7 +210,7 @@ one_counts : (c b n : ℕ) → c < b → cond {A = ℕ} (leb 0 c && ltb c b) 1 0
 one_counts c b n h = grind (arith, nat_tests)
 
 -- all cells are counted below a bound that no cell reaches
-pub length_count : (cells : List ℕ) (b : ℕ) → All (λ c. c < b) cells → count cells 0 b ≡ length cells
+pub length_count : (cells : List ℕ) (b : ℕ) → AllByRecursion (λ c. c < b) cells → count cells 0 b ≡ length cells
 unfolding count
 length_count [] b h = refl
 length_count (c ∷ cells) b h = one_counts c b (count cells 0 b) h.0 ∙ ap suc (length_count cells b h.1)

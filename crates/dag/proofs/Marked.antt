@@ -1,6 +1,6 @@
 -- The cells that a list marks.
 use Rattle.std.proofs.Common.{◌≡◌, ℕ, zero, suc, ◌^◌, ◌<◌, ◌≤◌, Bool, true, false, cond, ◌&&◌, ◌||◌, eqb, List, [], ◌∷◌, ◌++◌, sym, refl, ap, ◌∙◌, subst, ap₂, ⊎_elim, arith}
-use Rattle.std.specs.List.{AllByRecursion as All}
+use Rattle.std.specs.List.{AllByRecursion}
 use Rattle.std.proofs.ByRecursion.{All-push, All-weaker}
 use Rattle.std.proofs.lemmas.List.{append-nil}
 use Rattle.std.proofs.lemmas.Bool.{eq-eqb, ne_eqb, cond_both, cases_lt, cases_eq}
@@ -19,16 +19,16 @@ set_none : (L : ℕ) → CellSet L []
 set_none L = record { rising = tt; inside = tt }
 
 module _ (L : ℕ) (ns : List Node) where
-  marked_to : (c : ℕ) → c ≤ 8 ^ L → CellSet L (marked_below L ns c) × All (λ d. d < c) (marked_below L ns c)
+  marked_to : (c : ℕ) → c ≤ 8 ^ L → CellSet L (marked_below L ns c) × AllByRecursion (λ d. d < c) (marked_below L ns c)
   unfolding marked_below
   marked_to zero h = (set_none L, tt)
   marked_to (suc c) h =
       let before = marked_to c (omega arith) in
-      let all : All (λ d. d < suc c) (marked_below L ns c) = All-weaker (λ d. d < c) (λ d. d < suc c) (λ d l. omega arith) (marked_below L ns c) before.1 in
-      let P : List ℕ → Type 0 = λ more. CellSet L (marked_below L ns c ++ more) × All (λ d. d < suc c) (marked_below L ns c ++ more) in
+      let all : AllByRecursion (λ d. d < suc c) (marked_below L ns c) = All-weaker (λ d. d < c) (λ d. d < suc c) (λ d l. omega arith) (marked_below L ns c) before.1 in
+      let P : List ℕ → Type 0 = λ more. CellSet L (marked_below L ns c ++ more) × AllByRecursion (λ d. d < suc c) (marked_below L ns c ++ more) in
       cond_both (marks L ns c) (c ∷ []) [] P
       (λ e. (set_push L (marked_below L ns c) c before.0 before.1 (omega arith), All-push (λ d. d < suc c) (marked_below L ns c) c all (omega arith)))
-      (λ e. subst (λ cells. CellSet L cells × All (λ d. d < suc c) cells) (sym (append-nil (marked_below L ns c))) (before.0, all))
+      (λ e. subst (λ cells. CellSet L cells × AllByRecursion (λ d. d < suc c) cells) (sym (append-nil (marked_below L ns c))) (before.0, all))
 
 pub marked_set : MarkedSet
 marked_set L ns = (marked_to L ns (8 ^ L) (omega arith)).0

@@ -1,6 +1,6 @@
 -- One more cell: what the list of cells keeps, and the rows from one cell to the next.
 use Rattle.std.proofs.Common.{◌≡◌, ℕ, suc, ◌+◌, ◌-◌, ◌*◌, ◌%◌, ◌^◌, ◌<◌, ◌≤◌, true, false, cond, ◌&&◌, ◌||◌, eqb, ltb, leb, ◌≢◌, List, [], ◌∷◌, ◌++◌, sym, refl, ap, ◌∙◌, subst, ap₂, ⊎_elim, add_assoc, zero-add, mul-one, div-one, arith}
-use Rattle.std.specs.List.{AllByRecursion as All}
+use Rattle.std.specs.List.{AllByRecursion}
 use Rattle.std.proofs.lemmas.Bool.{eq-eqb, cases_lt, cases_order, or_right}
 use Rattle.std.proofs.ByRecursion.{All-push}
 use Rattle.std.proofs.lemmas.Bool.Decides.{nat_tests}
@@ -35,7 +35,7 @@ one_here : (c : ℕ) → cond {A = ℕ} (leb c c && ltb c (c + 1)) 1 0 + 0 ≡ 1
 one_here c = grind (arith, nat_tests)
 
 -- no cell is above the last
-pub all_last : (cells : List ℕ) (m : ℕ) → All (λ d. d ≤ m) cells → AllUpTo cells m
+pub all_last : (cells : List ℕ) (m : ℕ) → AllByRecursion (λ d. d ≤ m) cells → AllUpTo cells m
 unfolding count
 all_last [] m h b = refl
 all_last (c ∷ cells) m h b =
@@ -87,13 +87,13 @@ unfolding has
 push_has [] c = ap (λ t. t || false) (eq-eqb c c refl)
 push_has (d ∷ cells) c = or_right (eqb d c) (has (cells ++ c ∷ []) c) (push_has cells c)
 
-rising_push : (cells : List ℕ) (c : ℕ) → Rising cells → All (λ d. d < c) cells → Rising (cells ++ c ∷ [])
+rising_push : (cells : List ℕ) (c : ℕ) → Rising cells → AllByRecursion (λ d. d < c) cells → Rising (cells ++ c ∷ [])
 rising_push [] c h l = tt
 rising_push (a ∷ []) c h l = (l.0, tt)
 rising_push (a ∷ b ∷ cells) c h l = (h.0, rising_push (b ∷ cells) c h.1 l.1)
 
 -- a higher code makes a set of cells again
-pub set_push : (L : ℕ) (cells : List ℕ) (c : ℕ) → CellSet L cells → All (λ d. d < c) cells → c < 8 ^ L → CellSet L (cells ++ c ∷ [])
+pub set_push : (L : ℕ) (cells : List ℕ) (c : ℕ) → CellSet L cells → AllByRecursion (λ d. d < c) cells → c < 8 ^ L → CellSet L (cells ++ c ∷ [])
 set_push L cells c h l b = record { rising = rising_push cells c h.rising l; inside = All-push (λ d. d < 8 ^ L) cells c h.inside b }
 
 -- ---- the rows

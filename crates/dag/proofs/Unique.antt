@@ -1,6 +1,6 @@
 -- Equal sealed lists belong to equal sets of cells.
 use Rattle.std.proofs.Common.{◌≡◌, ℕ, zero, suc, ◌+◌, ◌*◌, ◌^◌, ◌<◌, ◌≤◌, true, false, ◌||◌, eqb, List, [], ◌∷◌, sym, refl, ap, ◌∙◌, subst, ap₂, inl, inr, ⊎_elim, zero-add, zero-mul, arith}
-use Rattle.std.specs.List.{AllByRecursion as All}
+use Rattle.std.specs.List.{AllByRecursion}
 use Rattle.std.proofs.lemmas.Bool.{eq-eqb, ne_eqb, or_left, or_from, both_ways, cases_lt, cases_eq, cases_order, cases_Bool}
 use Rattle.nodes.specs.declared.node.Node.{Node}
 use Rattle.dag.specs.Sets.{CellSet, Rising, has}
@@ -61,7 +61,7 @@ same_members (a ∷ A) (b ∷ B) r s h =
     (same_members A B (rising_tail a A r) (rising_tail b B s) (same_later a b A B r s h))
 
 -- a code past the bound is no member
-pub has_past : (cells : List ℕ) (b c : ℕ) → All (λ d. d < b) cells → b ≤ c → has cells c ≡ false
+pub has_past : (cells : List ℕ) (b c : ℕ) → AllByRecursion (λ d. d < b) cells → b ≤ c → has cells c ≡ false
 has_past [] b c h l = unfold has in refl
 has_past (d ∷ cells) b c (p, h) l =
     has_more d cells c ∙ or_from (eqb d c) (has cells c) (ne_eqb d c (λ e. omega arith)) (has_past cells b c h l)

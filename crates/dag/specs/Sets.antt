@@ -1,6 +1,6 @@
 -- Sets of cells, by their codes.
 use Rattle.std.specs.Prelude.{ℕ, ◌+◌, ◌^◌, ◌<◌, Bool, false, cond, ◌&&◌, ◌||◌, List, [], ◌∷◌, ◌==◌, nat_le, nat_lt}
-use Rattle.std.specs.List.{AllByRecursion as All}
+use Rattle.std.specs.List.{AllByRecursion}
 
 -- each code is above the one before it
 abbrev pub Rising : List ℕ → Type 0
@@ -11,7 +11,7 @@ Rising (c ∷ d ∷ cs) = (c < d) × Rising (d ∷ cs)
 -- a set of cells of a hall with L levels: rising codes below 8 ^ L
 pub record CellSet (L : ℕ) (cells : List ℕ) : Type 0 where
   pub rising : Rising cells
-  pub inside : All (λ c. c < 8 ^ L) cells
+  pub inside : AllByRecursion (λ c. c < 8 ^ L) cells
 
 -- whether a code is one of the cells
 unfoldable pub has : List ℕ → ℕ → Bool

@@ -1,7 +1,7 @@
 -- Numbers of one width that stand one behind another.
 use Rattle.std.proofs.Common.{◌≡◌, ℕ, zero, suc, ◌+◌, ◌*◌, ◌^◌, ◌<◌, ◌≤◌, List, [], ◌∷◌, ◌++◌, length, get_or, take, drop, set, sym, refl, ap, ◌∙◌, mul-zero, mul-suc, add-one, arith, w8, Fits}
 use borrow.Rule.Slice.PartMut.{put_mid}
-use Rattle.std.specs.List.{flat_map, AllByRecursion as All}
+use Rattle.std.specs.List.{flat_map, AllByRecursion}
 use Rattle.std.proofs.lemmas.List.{length-take, length-take-le, length-drop, length-append, take-append-drop, take_at, drop_at, nil_from_length, take_all, take_more, take_more_set, drop-drop, flat_map_more}
 use Rattle.std.proofs.lemmas.Slice.{take-put_mid}
 use Rattle.std.proofs.ByRecursion.{All-from_get_or, All-take, All-drop}
@@ -74,7 +74,7 @@ get_d_values w (suc k) (suc i) bs lt =
     step : (w i : ℕ) → w + w * i ≡ w * suc i
     step w i = rw (mul-suc w i) (omega arith)
 
-pub values_fit : (w k : ℕ) (bs : List ℕ) → Bytes bs → All (λ n. n < 256 ^ w) (values_of w k bs)
+pub values_fit : (w k : ℕ) (bs : List ℕ) → Bytes bs → AllByRecursion (λ n. n < 256 ^ w) (values_of w k bs)
 unfolding values_of
 values_fit w zero bs h = tt
 values_fit w (suc k) bs h =
@@ -85,7 +85,7 @@ length_joined w [] = sym (mul-zero w)
 length_joined w (x ∷ xs) = rw (length-append (bytes_of w x) (flat_map (bytes_of w) xs), length_bytes_of w x, length_joined w xs, mul-suc w (length xs)) (omega arith)
 
 -- numbers that fit are read as they were written
-pub values_written : (w k : ℕ) (xs : List ℕ) → length xs ≡ k → All (λ n. n < 256 ^ w) xs → values_of w k (flat_map (bytes_of w) xs) ≡ xs
+pub values_written : (w k : ℕ) (xs : List ℕ) → length xs ≡ k → AllByRecursion (λ n. n < 256 ^ w) xs → values_of w k (flat_map (bytes_of w) xs) ≡ xs
 unfolding values_of
 values_written w zero [] e h = refl
 values_written w zero (x ∷ xs) e h = absurd (omega arith)

@@ -1,7 +1,7 @@
 -- The written form of a record: 50 bytes, the level, the mask, eight links of 2 bytes and eight offsets of 4.
 use Rattle.std.specs.Prelude.{◌≡◌, ℕ, zero, suc, ◌+◌, ◌*◌, ◌/◌, ◌%◌, ◌^◌, ◌<◌, List, [], ◌∷◌, ◌++◌, length, take, drop, slice_index, refl}
 use Rattle.std.proofs.Common.{ap}
-use Rattle.std.specs.List.{between, flat_map, AllByRecursion as All}
+use Rattle.std.specs.List.{between, flat_map, AllByRecursion}
 use Rattle.nodes.specs.declared.node.Node.{Node}
 use Rattle.nodes.specs.Records.{children}
 
@@ -11,7 +11,7 @@ node_bytes = 50
 
 -- numbers that each fit one byte
 abbrev pub Bytes : List ℕ → Type 0
-Bytes = All (λ b. b < 256)
+Bytes = AllByRecursion (λ b. b < 256)
 
 -- the bytes of a number, the low byte first, as many as the width says
 unfoldable pub bytes_of : ℕ → ℕ → List ℕ
@@ -52,9 +52,9 @@ pub record Fitting (node : Node) : Type 0 where
   pub level_fits : node.level < 256
   pub mask_fits : node.mask < 256
   pub eight_links : length node.links ≡ children
-  pub links_fit : All (λ link. link < 2 ^ 16) node.links
+  pub links_fit : AllByRecursion (λ link. link < 2 ^ 16) node.links
   pub eight_offsets : length node.offsets ≡ children
-  pub offsets_fit : All (λ offset. offset < 2 ^ 32) node.offsets
+  pub offsets_fit : AllByRecursion (λ offset. offset < 2 ^ 32) node.offsets
 
 -- there are as many records as were asked for
 pub length_nodes : (count : ℕ) (bytes : List ℕ) → length (read_nodes count bytes) ≡ count

@@ -1,6 +1,6 @@
 // Records as bytes: level, mask, links and offsets, each number with its low byte first.
 ghost use Rattle.std.specs.Prelude.{◌≡◌, ◌^◌, ◌<◌, ◌≤◌, length};
-ghost use Rattle.std.specs.List.{flat_map, AllByRecursion as All};
+ghost use Rattle.std.specs.List.{flat_map, AllByRecursion};
 ghost use Rattle.nodes.specs.Records.{children};
 ghost use Rattle.nodes.specs.Format.{Bytes, Fitting, bytes_of, node_bytes, read_node, value_of, values_of, written};
 
@@ -80,7 +80,7 @@ fn put_links(bytes: &mut [u8], links: &[u16; CHILDREN])
     requires { length bytes.old ≡ 16 }
     ensures bytes { bytes.new ≡ flat_map (bytes_of 2) links.now }
     ensures eight { length links.now ≡ children }
-    ensures each { All (λ link. link < 2 ^ 16) links.now }
+    ensures each { AllByRecursion (λ link. link < 2 ^ 16) links.now }
 {
     for i in 0..CHILDREN {
         put_number(
@@ -95,7 +95,7 @@ fn put_offsets(bytes: &mut [u8], offsets: &[u32; CHILDREN])
     requires { length bytes.old ≡ 32 }
     ensures bytes { bytes.new ≡ flat_map (bytes_of 4) offsets.now }
     ensures eight { length offsets.now ≡ children }
-    ensures each { All (λ offset. offset < 2 ^ 32) offsets.now }
+    ensures each { AllByRecursion (λ offset. offset < 2 ^ 32) offsets.now }
 {
     for i in 0..CHILDREN {
         put_number(

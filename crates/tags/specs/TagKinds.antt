@@ -1,15 +1,17 @@
 -- The kinds: which numbers make a tag, and what its word tells.
-use Rattle.std.specs.Prelude.{◌≡◌, ℕ, ◌/◌, ◌%◌, ◌<◌, ◌≤◌, Some, None}
+use Rattle.std.specs.Prelude.{◌≡◌, ℕ, ◌/◌, ◌%◌, ◌^◌, ◌<◌, ◌≤◌, true, ◌||◌, Some, None}
 use Rattle.std.proofs.Common.{sym, ap, ◌∙◌, arith}
+use Rattle.std.proofs.lemmas.Bool.{leb-true}
+use Rattle.std.proofs.lemmas.Bool.Decides.{nat_tests}
 use Rattle.std.proofs.Math.Bridge.{le_prop}
 use Rattle.std.proofs.Math.Decide.{dec_le}
 use Rattle.tags.specs.declared.speed.Speed.{Speed}
 use Rattle.tags.specs.declared.load.Load.{Load}
 use Rattle.tags.specs.declared.label.Label.{Label}
-use Rattle.tags.specs.Bounds.{top_speed, top_load, top_zone, first_plate, last_plate}
-use Rattle.tags.specs.Speeds.{speed_of}
-use Rattle.tags.specs.Loads.{load_at, load_of, load_word}
-use Rattle.tags.specs.Labels.{label_of}
+use Rattle.tags.specs.Bounds.{top_speed, top_load, top_zone, first_plate, last_plate, speed_width, load_width, label_width}
+use Rattle.tags.specs.Speeds.{limit_of, speed_of, slower}
+use Rattle.tags.specs.Loads.{load_at, load_of, load_word, lighter}
+use Rattle.tags.specs.Labels.{plate_of, label_of}
 use Rattle.tags.specs.Makes.{only_if_yes, only_if_no, only_if_some, some_same}
 
 pub speed_inside : (n : ℕ) (low : n ≤ top_speed) → speed_of n ≡ Some (record { limit = n; low = low })
@@ -80,3 +82,43 @@ label_only n t e =
     let p = only_if_some (dec_le first_plate n) _ t e in
     let q = only_if_some (dec_le n last_plate) _ t p.1 in
     ap (λ s. s.plate) (sym (some_same _ t q.1))
+
+-- ---- widths, and words that fit them
+
+pub speed_bytes : (1 ≤ speed_width) × (speed_width ≤ 4)
+speed_bytes = (omega arith, omega arith)
+
+pub speed_fits : (t : Speed) → limit_of t < 256 ^ speed_width
+speed_fits t = let low = t.low in omega arith
+
+pub load_bytes : (1 ≤ load_width) × (load_width ≤ 4)
+load_bytes = (omega arith, omega arith)
+
+pub load_fits : (t : Load) → load_word t.load t.zone < 256 ^ load_width
+load_fits t = let light = t.light in let near = t.near in omega arith
+
+pub label_bytes : (1 ≤ label_width) × (label_width ≤ 4)
+label_bytes = (omega arith, omega arith)
+
+pub label_fits : (t : Label) → plate_of t < 256 ^ label_width
+label_fits t = let last = t.last in omega arith
+
+-- ---- the orders of strictness
+
+pub slower_total : (a b : Speed) → (slower a b || slower b a) ≡ true
+slower_total a b = grind (arith, nat_tests)
+
+pub slower_same : (a b : Speed) → slower a b ≡ true → slower b a ≡ true → a ≡ b
+slower_same a b p q = speed_same a b (omega (arith, leb-true a.limit b.limit p, leb-true b.limit a.limit q))
+
+pub slower_through : (a b c : Speed) → slower a b ≡ true → slower b c ≡ true → slower a c ≡ true
+slower_through a b c p q = grind (arith, nat_tests)
+
+pub lighter_total : (a b : Load) → (lighter a b || lighter b a) ≡ true
+lighter_total a b = grind (arith, nat_tests)
+
+pub lighter_same : (a b : Load) → lighter a b ≡ true → lighter b a ≡ true → a ≡ b
+lighter_same a b p q = load_same a b (grind (arith, nat_tests)) (grind (arith, nat_tests))
+
+pub lighter_through : (a b c : Load) → lighter a b ≡ true → lighter b c ≡ true → lighter a c ≡ true
+lighter_through a b c p q = grind (arith, nat_tests)

@@ -2,7 +2,7 @@
 use Rattle.std.proofs.Common.{◌≡◌, ℕ, ◌+◌, ◌-◌, ◌*◌, ◌^◌, ◌<◌, ◌≤◌, Bool, true, false, cond, ◌&&◌, leb, List, length, get_or, drop, Some, None, sym, refl, ap, ◌∙◌, lt_of_lt_of_le, pow-suc, add-one, arith}
 use native.Mathlib.Nat.{pow-le-pow_right}
 use Rattle.std.specs.Str.Parse.{digits_value, digits_value_after}
-use Rattle.std.specs.Char.{is_ascii_digit, digit_value as digitValue}
+use Rattle.std.specs.Char.{is_ascii_digit, digit_value as char_digit_value}
 use Rattle.std.specs.Str.{all_ascii_digits}
 use Rattle.std.proofs.lemmas.List.{at_drop_more, at_drop_all}
 use Rattle.std.proofs.lemmas.Bool.{and_left, and_right, and_parts, le-leb, leb-true}
@@ -10,7 +10,7 @@ use Rattle.std.proofs.lemmas.Str.Parse.{numerals_by_value, tells_all_ascii_digit
 use Rattle.std.proofs.lemmas.Bool.Decides.{nat_tests}
 use Rattle.text.specs.Numbers.{number_in}
 
-digit_value : (b : ℕ) → is_ascii_digit b ≡ true → digitValue b ≡ b - 48
+digit_value : (b : ℕ) → is_ascii_digit b ≡ true → char_digit_value b ≡ b - 48
 digit_value b e = grind (arith, nat_tests)
 
 -- a digit is 48 to 57
@@ -31,7 +31,7 @@ module _ (bs : List ℕ) (i v : ℕ) (inside : i < length bs)
   pub value_goes : is_ascii_digit (get_or bs i 0) ≡ true → digits_value_after 10 (10 * v + (get_or bs i 0 - 48)) (drop (i + 1) bs) ≡ digits_value 10 bs
   value_goes e =
       let d = digit_value (get_or bs i 0) e in
-      let f : 10 * v + (get_or bs i 0 - 48) ≡ v * 10 + digitValue (get_or bs i 0) = omega arith in
+      let f : 10 * v + (get_or bs i 0 - 48) ≡ v * 10 + char_digit_value (get_or bs i 0) = omega arith in
       ap (λ n. digits_value_after 10 n (drop (i + 1) bs)) f ∙ sym (at_drop_more (digits_value_after 10 v) bs i 0 inside) ∙ goes
 
 -- the value so far has no more digits than were read

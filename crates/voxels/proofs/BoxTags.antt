@@ -1,6 +1,6 @@
 -- The tags in a box, by the cells and their tags.
 use Rattle.std.proofs.Common.{◌≡◌, ℕ, zero, suc, ◌+◌, ◌^◌, ◌<◌, ◌≤◌, Bool, true, false, cond, ◌&&◌, ◌||◌, eqb, ltb, leb, List, [], ◌∷◌, ◌++◌, length, Some, None, Option, sym, refl, ap, ◌∙◌, ap₂, ⊎_elim, arith}
-use Rattle.std.specs.List.{slice_get, AllByRecursion as All}
+use Rattle.std.specs.List.{slice_get, AllByRecursion}
 use Rattle.std.proofs.ByRecursion.{All-weaker}
 use Rattle.std.proofs.lemmas.Bool.{cases_eq, eq-eqb, ne_eqb, lt-ltb, le-ltb, le-leb, and_from, and_right}
 use Rattle.cells.specs.Hall.{cell_at}
@@ -25,7 +25,7 @@ tags_same L bounds look other from (suc many) h =
     (tags_same L bounds look other (suc from) many (λ code a b. h code (omega arith) (omega arith)))
 
 -- all later cells are above the first
-later : (c : ℕ) (cells : List ℕ) → Rising (c ∷ cells) → All (λ d. c < d) cells
+later : (c : ℕ) (cells : List ℕ) → Rising (c ∷ cells) → AllByRecursion (λ d. c < d) cells
 later c [] r = tt
 later c (d ∷ cells) (l, r) = (l, All-weaker (λ e. d < e) (λ e. c < e) (λ e h. omega arith) cells (later d cells r))
 
@@ -72,7 +72,7 @@ module _ {K : Type 0} (L : ℕ) (bounds : CellBox) where
   one_tag true t rest = refl
   one_tag false t rest = refl
 
-  stands_from : (cells : List ℕ) (tags : List K) (from many : ℕ) → Rising cells → All (λ c. (from ≤ c) × (c < from + many)) cells → length tags ≡ length cells
+  stands_from : (cells : List ℕ) (tags : List K) (from many : ℕ) → Rising cells → AllByRecursion (λ c. (from ≤ c) × (c < from + many)) cells → length tags ≡ length cells
       → tags_from L bounds (stands_at cells tags) from many ≡ tags_inside L bounds cells tags
   unfolding tags_from
   stands_from [] tags from many r within e = tags_none L bounds (stands_at [] tags) from many (λ code a b. nothing_at [] tags code (no_cell code))
@@ -95,11 +95,11 @@ module _ {K : Type 0} (L : ℕ) (bounds : CellBox) where
       ((omega arith, omega (arith, within.0.1)), both_up cells up (later c cells r) within.1) e)
       (cases_eq c from)
     where
-      both : (ds : List ℕ) → All (λ d. c < d) ds → All (λ d. (from ≤ d) × (d < from + suc many)) ds → c ≡ from → All (λ d. (suc from ≤ d) × (d < suc from + many)) ds
+      both : (ds : List ℕ) → AllByRecursion (λ d. c < d) ds → AllByRecursion (λ d. (from ≤ d) × (d < from + suc many)) ds → c ≡ from → AllByRecursion (λ d. (suc from ≤ d) × (d < suc from + many)) ds
       both [] a b z = tt
       both (d ∷ ds) a b z = ((omega (arith, a.0), omega (arith, b.0.1)), both ds a.1 b.1 z)
 
-      both_up : (ds : List ℕ) → from < c → All (λ d. c < d) ds → All (λ d. (from ≤ d) × (d < from + suc many)) ds → All (λ d. (suc from ≤ d) × (d < suc from + many)) ds
+      both_up : (ds : List ℕ) → from < c → AllByRecursion (λ d. c < d) ds → AllByRecursion (λ d. (from ≤ d) × (d < from + suc many)) ds → AllByRecursion (λ d. (suc from ≤ d) × (d < suc from + many)) ds
       both_up [] u a b = tt
       both_up (d ∷ ds) u a b = ((omega (arith, a.0), omega (arith, b.0.1)), both_up ds u a.1 b.1)
 

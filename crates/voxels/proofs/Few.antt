@@ -1,7 +1,7 @@
 -- How many cells a hall has, and the last of them.
 use Rattle.std.proofs.Common.{◌≡◌, ℕ, zero, suc, ◌+◌, ◌-◌, ◌^◌, ◌<◌, ◌≤◌, true, false, cond, ◌&&◌, eqb, ltb, leb, List, [], ◌∷◌, subst, ⊎_elim, zero-lt-suc, add-one, arith}
 use native.Mathlib.Nat.{pow-le-pow_right, one-le-pow}
-use Rattle.std.specs.List.{AllByRecursion as All}
+use Rattle.std.specs.List.{AllByRecursion}
 use Rattle.std.proofs.ByRecursion.{All-weaker}
 use Rattle.std.proofs.lemmas.Bool.{cases_lt, or_cases, eqb-true, lt-ltb, le-ltb}
 use Rattle.std.proofs.lemmas.Bool.Decides.{nat_tests}
@@ -41,7 +41,7 @@ few_cells L cells h l a b =
 -- ---- the last cell
 
 -- what holds of all cells holds of a cell
-pub has_all : (P : ℕ → Type 0) (cells : List ℕ) (m : ℕ) → All P cells → has cells m ≡ true → P m
+pub has_all : (P : ℕ → Type 0) (cells : List ℕ) (m : ℕ) → AllByRecursion P cells → has cells m ≡ true → P m
 unfolding has
 has_all P [] m h e = let z : ◌≡◌ {A = ℕ} 0 1 = cc in absurd (omega arith)
 has_all P (c ∷ cells) m h e =
@@ -60,7 +60,7 @@ has_counts (c ∷ cells) m a b e h l =
     (λ q. let r = has_counts cells m a b q h l in omega arith)
     (or_cases (eqb c m) (has cells m) e)
 
-module _ (L : ℕ) (cells : List ℕ) (m code : ℕ) (inside : All (λ c. c < 8 ^ L) cells) (placed : has cells m ≡ true) (last : (b : ℕ) → count cells (m + 1) b ≡ 0) where
+module _ (L : ℕ) (cells : List ℕ) (m code : ℕ) (inside : AllByRecursion (λ c. c < 8 ^ L) cells) (placed : has cells m ≡ true) (last : (b : ℕ) → count cells (m + 1) b ≡ 0) where
   pub last_inside : m < 8 ^ L
   last_inside = has_all (λ c. c < 8 ^ L) cells m inside placed
 

@@ -1,6 +1,6 @@
 -- The tag that is picked is the strictest.
 use Rattle.std.proofs.Common.{◌≡◌, ℕ, zero, suc, Bool, true, false, cond, ◌||◌, List, [], ◌∷◌, Some, None, sym, refl, ap, ◌∙◌, subst, arith}
-use Rattle.std.specs.List.{slice_get, AllByRecursion as All}
+use Rattle.std.specs.List.{slice_get, AllByRecursion}
 use Rattle.voxels.specs.Strict.{StrictestOf, picked}
 
 module _ {K : Type 0} (stricter : K → K → Bool) (total : (a b : K) → (stricter a b || stricter b a) ≡ true)
@@ -26,7 +26,7 @@ module _ {K : Type 0} (stricter : K → K → Bool) (total : (a b : K) → (stri
     pub at : ℕ
     pub there : slice_get (t ∷ ts) at ≡ Some tag
     pub first : stricter tag t ≡ true
-    pub rest : All (λ u. stricter tag u ≡ true) ts
+    pub rest : AllByRecursion (λ u. stricter tag u ≡ true) ts
 
   place_in : (t x : K) (ts : List K) (b : Bool) (u : K) (n : ℕ) → slice_get (cond b t x ∷ ts) n ≡ Some u → (m : ℕ) × (slice_get (t ∷ x ∷ ts) m ≡ Some u)
   place_in t x ts true u zero e = (0, e)

@@ -1,7 +1,7 @@
 -- What place makes of an open map.
 use Rattle.std.proofs.Common.{◌≡◌, ℕ, ◌+◌, ◌^◌, ◌<◌, ◌≤◌, Bool, true, false, cond, not, ltb, leb, List, [], ◌∷◌, ◌++◌, length, Some, None, Option, sym, refl, ap, ◌∙◌, subst, arith}
 use mathlib.Core.List.{map-append}
-use Rattle.std.specs.List.{AllByRecursion as All}
+use Rattle.std.specs.List.{AllByRecursion}
 use Rattle.std.proofs.ByRecursion.{All-weaker, All-push}
 use Rattle.std.proofs.lemmas.List.{length_push}
 use Rattle.std.proofs.lemmas.Bool.{lt-ltb, le-ltb, le-leb, lt-leb}
@@ -118,7 +118,7 @@ module _ {K : Type 0} (word_of : K → ℕ) (L : ℕ) (cells : List ℕ) (tags :
   -- what add-cell leaves, where all cells are below the code
   module _ (tag : K) (phase' : Phase) (levels' : ℕ) (last' : Option ℕ) (ms : List Node) (after : List OpenRow) (words' : List ℕ)
       (p : phase' ≡ phase) (q : levels' ≡ levels) (r : last' ≡ Some code) (w : words' ≡ words ++ word_of tag ∷ []) where
-    open_more : All (λ d. d < code) cells → AtStage L (cells ++ code ∷ []) code 0 ms after
+    open_more : AllByRecursion (λ d. d < code) cells → AtStage L (cells ++ code ∷ []) code 0 ms after
         → OpenAs word_of L (cells ++ code ∷ []) (tags ++ tag ∷ []) phase' levels' last' ms after words'
     open_more l at = record {
       phase_is = p ∙ stands.phase_is;
@@ -139,7 +139,7 @@ module _ {K : Type 0} (word_of : K → ℕ) (L : ℕ) (cells : List ℕ) (tags :
       first_open e f g =
           let b = start e in
           let list : ms ≡ below L cells code = f ∙ first_list e in (
-            open_more (subst (All (λ d. d < code)) (sym b.0) tt)
+            open_more (subst (AllByRecursion (λ d. d < code)) (sym b.0) tt)
                 (subst (λ xs. AtStage L (cells ++ code ∷ []) code 0 xs after) (sym list)
                 (subst (λ cs. AtStage L (cs ++ code ∷ []) code 0 (below L cs code) after) (sym b.0)
                 (first_stage L code left after fits code_inside (subst EmptyRows (sym g) b.2) taken))),

@@ -1,7 +1,7 @@
 -- Writing entries one behind another, each in so many bytes.
 use Rattle.std.proofs.Common.{◌≡◌, ℕ, suc, ◌+◌, ◌-◌, ◌*◌, ◌^◌, ◌<◌, ◌≤◌, List, [], ◌∷◌, ◌++◌, map, length, get_or, take, drop, Some, None, sym, refl, ap, ◌∙◌, subst, ap₂, append_assoc, mul-le-mul_left, mul-zero, mul-suc, add-one, arith, take-append-drop}
 use borrow.Rule.Slice.PartMut.{put_mid}
-use Rattle.std.specs.List.{slice_get, flat_map, AllByRecursion as All}
+use Rattle.std.specs.List.{slice_get, flat_map, AllByRecursion}
 use Rattle.std.proofs.lemmas.Option.{slice_get-get_or}
 use Rattle.std.proofs.lemmas.List.{take_more, take_all, drop_all, flat_map_more, drop-drop, take-append-le, drop-append-le}
 use Rattle.std.proofs.lemmas.Slice.{take-put_mid, drop-put_mid}
@@ -72,7 +72,7 @@ drop_first xs ys n e = drop-append-le n xs ys (omega arith) ∙ ap (λ zs. zs ++
 abbrev pub Back : Node → Type 0
 Back node = (length (written node) ≡ node_bytes) × (read_node (written node) ≡ node)
 
-pub nodes_back : (ns : List Node) (rest : List ℕ) → All Back ns → read_nodes (length ns) (flat_map written ns ++ rest) ≡ ns
+pub nodes_back : (ns : List Node) (rest : List ℕ) → AllByRecursion Back ns → read_nodes (length ns) (flat_map written ns ++ rest) ≡ ns
 unfolding read_nodes
 nodes_back [] rest all = refl
 nodes_back (node ∷ ns) rest all =
@@ -82,7 +82,7 @@ nodes_back (node ∷ ns) rest all =
     ap₂ (λ (a : Node) (bs : List Node). a ∷ bs) (ap read_node t ∙ all.0.1) (ap (read_nodes (length ns)) d ∙ nodes_back ns rest all.1)
 
 -- words that fit their width
-pub words_back : (w : ℕ) (ws rest : List ℕ) → All (λ x. x < 256 ^ w) ws → values_of w (length ws) (flat_map (bytes_of w) ws ++ rest) ≡ ws
+pub words_back : (w : ℕ) (ws rest : List ℕ) → AllByRecursion (λ x. x < 256 ^ w) ws → values_of w (length ws) (flat_map (bytes_of w) ws ++ rest) ≡ ws
 unfolding values_of
 words_back w [] rest all = refl
 words_back w (x ∷ ws) rest all =
@@ -92,9 +92,9 @@ words_back w (x ∷ ws) rest all =
     ap₂ (λ (a : ℕ) (bs : List ℕ). a ∷ bs) (ap value_of t ∙ value_bytes w x all.0) (ap (values_of w (length ws)) d ∙ words_back w ws rest all.1)
 
 -- the words of tags fit the kind's width
-pub words_fit : {K : Type 0} (word_of : K → ℕ) (w : ℕ) → ((t : K) → word_of t < 256 ^ w) → (tags : List K) (ws : List ℕ) → ws ≡ map word_of tags → All (λ x. x < 256 ^ w) ws
-words_fit {K = K} word_of w fits tags ws e = subst (All (λ x. x < 256 ^ w)) (sym e) (each tags)
+pub words_fit : {K : Type 0} (word_of : K → ℕ) (w : ℕ) → ((t : K) → word_of t < 256 ^ w) → (tags : List K) (ws : List ℕ) → ws ≡ map word_of tags → AllByRecursion (λ x. x < 256 ^ w) ws
+words_fit {K = K} word_of w fits tags ws e = subst (AllByRecursion (λ x. x < 256 ^ w)) (sym e) (each tags)
   where
-    each : (ts : List K) → All (λ x. x < 256 ^ w) (map word_of ts)
+    each : (ts : List K) → AllByRecursion (λ x. x < 256 ^ w) (map word_of ts)
     each [] = tt
     each (t ∷ ts) = (fits t, each ts)

@@ -1,11 +1,11 @@
 pub mod Phases
-pub mod Shown
 pub mod Finds
 pub mod Looks
 pub mod Stages
 pub mod Stands
 pub mod Places
 pub mod Closes
+pub mod Shown
 pub mod Strict
 pub mod Visiting
 pub mod Sweeps

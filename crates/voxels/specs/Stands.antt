@@ -1,6 +1,6 @@
 -- Which cells and tags a map stands for.
 use Rattle.std.specs.Prelude.{◌≡◌, ℕ, ◌<◌, ◌≤◌, cond, not, List, [], map, length, Some, None, Option}
-use Rattle.std.specs.List.{slice_get, AllByRecursion as All}
+use Rattle.std.specs.List.{slice_get, AllByRecursion}
 use Rattle.cells.specs.Refusals.{Answer, gives, refuse_if}
 use Rattle.cells.specs.Hall.{cell_fits, code_of}
 use Rattle.cells.specs.declared.hall.Cell.{Cell}
@@ -42,7 +42,7 @@ EmptyRows rows = (j : ℕ) → j < 10 → ((row_at rows j).node ≡ empty_row j)
 -- with one, m, its list is that of the sub-cubes below m, and each row is the beginning of the record of m's sub-cube
 abbrev pub Building : ℕ → List ℕ → Option ℕ → List Node → List OpenRow → Type 0
 Building L cells None ns rows = (cells ≡ []) × (ns ≡ []) × EmptyRows rows
-Building L cells (Some m) ns rows = All (λ c. c ≤ m) cells × AtStage L cells m 0 ns rows
+Building L cells (Some m) ns rows = AllByRecursion (λ c. c ≤ m) cells × AtStage L cells m 0 ns rows
 
 -- an open map stands for cells, in code order, and their tags
 pub record OpenAs {K : Type 0} (word_of : K → ℕ) (L : ℕ) (cells : List ℕ) (tags : List K) (phase : Phase) (levels : ℕ) (last : Option ℕ) (ns : List Node) (rows : List OpenRow) (words : List ℕ) : Type 0 where

@@ -1,6 +1,6 @@
 -- What strictest answers.
 use Rattle.std.specs.Prelude.{◌≡◌, ℕ, zero, suc, ◌+◌, ◌^◌, ◌<◌, Bool, true, cond, not, ◌&&◌, List, [], ◌∷◌, ◌++◌, length, Some, None, Option}
-use Rattle.std.specs.List.{slice_get, AllByRecursion as All}
+use Rattle.std.specs.List.{slice_get, AllByRecursion}
 use Rattle.cells.specs.Refusals.{Answer, gives, refuse_if}
 use Rattle.cells.specs.Hall.{cell_fits, cell_at}
 use Rattle.cells.specs.Boxes.{not_above, box_holds}
@@ -19,7 +19,7 @@ module _ {K : Type 0} (stricter : K → K → Bool) where
   -- the strictest of some tags: absent where there are none, and otherwise one of them that is at least as strict as each
   abbrev pub StrictestOf : List K → Option K → Type 0
   StrictestOf tags None = tags ≡ []
-  StrictestOf tags (Some tag) = ((n : ℕ) × (slice_get tags n ≡ Some tag)) × All (λ other. stricter tag other ≡ true) tags
+  StrictestOf tags (Some tag) = ((n : ℕ) × (slice_get tags n ≡ Some tag)) × AllByRecursion (λ other. stricter tag other ≡ true) tags
 
   -- the stricter one of the strictest so far and one more tag
   abbrev pub pick : Option K → K → Option K

@@ -1,4 +1,4 @@
-// The map of a hall: open, place, seal and look.
+// The map of a hall and its calls.
 
 #![tactic(auto)]
 

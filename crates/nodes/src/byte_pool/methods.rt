@@ -2,7 +2,7 @@
 ghost use Rattle.std.specs.Prelude.{◌≡◌, ◌+◌, ◌*◌, ◌/◌, ◌≤◌, min, false, [], ◌∷◌, ◌++◌, length, get_or, take, drop, slice_index_or};
 ghost use Rattle.nodes.specs.Records.{blank, of_child};
 ghost use Rattle.nodes.specs.Format.{Bytes, Fitting, node_bytes, read_node, read_nodes, value_of, written};
-ghost use Rattle.nodes.specs.Pools.{bytes as inBytes, capped, capped_bounded, front, full};
+ghost use Rattle.nodes.specs.Pools.{bytes as in_bytes, capped, capped_bounded, front, full};
 ghost use Rattle.nodes.specs.Memory.{laid};
 ghost use Rattle.nodes.specs.BytePools.{bytes_hold, list_of, list_within, capacity_of, behind_of};
 
@@ -159,8 +159,8 @@ impl BytePool<'_> {
         ensures number { result ≡ length (list_of self.old) }
         ensures list { list_of self.new ≡ list_of self.old ++ node ∷ [] }
         ensures fixed { capacity_of self.new ≡ capacity_of self.old }
-        ensures untouched { inBytes (behind_of self.new) ≡ inBytes (behind_of self.old) }
-        ensures kept { front (length (list_of self.old)) (inBytes self.new.bytes.places.now) ≡ front (length (list_of self.old)) (inBytes self.old.bytes.places.now) }
+        ensures untouched { in_bytes (behind_of self.new) ≡ in_bytes (behind_of self.old) }
+        ensures kept { front (length (list_of self.old)) (in_bytes self.new.bytes.places.now) ≡ front (length (list_of self.old)) (in_bytes self.old.bytes.places.now) }
     {
         let number = self.count;
         self.bytes.put_node(NODE_BYTES * number, &node);
@@ -172,8 +172,8 @@ impl BytePool<'_> {
     fn keep(&mut self, n: usize)
         ensures list { list_of self.new ≡ take n (list_of self.old) }
         ensures fixed { capacity_of self.new ≡ capacity_of self.old }
-        ensures untouched { inBytes (behind_of self.new) ≡ inBytes (behind_of self.old) }
-        ensures kept { front (length (list_of self.new)) (inBytes self.new.bytes.places.now) ≡ front (length (list_of self.new)) (inBytes self.old.bytes.places.now) }
+        ensures untouched { in_bytes (behind_of self.new) ≡ in_bytes (behind_of self.old) }
+        ensures kept { front (length (list_of self.new)) (in_bytes self.new.bytes.places.now) ≡ front (length (list_of self.new)) (in_bytes self.old.bytes.places.now) }
     {
         if n < self.count {
             let count = self.count;
@@ -188,9 +188,9 @@ impl NodePool for BytePool<'_> {
 
     ghost capacity = { capacity_of };
 
-    ghost behind = { λ pool. inBytes (behind_of pool) };
+    ghost behind = { λ pool. in_bytes (behind_of pool) };
 
-    ghost memory = { λ pool. inBytes pool.bytes.places.now };
+    ghost memory = { λ pool. in_bytes pool.bytes.places.now };
 
     ghost within = { list_within };
 

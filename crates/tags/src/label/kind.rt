@@ -4,8 +4,7 @@ ghost use Rattle.cells.specs.Refusals.{answer, refuse_if, Answer.gives};
 ghost use Rattle.tags.specs.Bounds.{first_plate, last_plate, label_width};
 ghost use Rattle.tags.specs.Making.{shown, made};
 ghost use Rattle.tags.specs.Labels.{plate_of, label_of};
-ghost use Rattle.tags.specs.TagKinds.{label_back, label_only};
-ghost use Rattle.std.proofs.Common.{rules, arith};
+ghost use Rattle.tags.specs.TagKinds.{label_back, label_only, label_bytes, label_fits};
 
 use super::{FIRST_PLATE, LAST_PLATE, Label};
 use crate::kind::TagKind;
@@ -49,9 +48,9 @@ impl TagKind for Label {
 
     ghost only = { label_only };
 
-    ghost bytes = { first_of (Prim.search rules, Prim.grind (arith, Self.row.coded.inj)) };
+    ghost bytes = { label_bytes };
 
-    ghost fits = { first_of (Prim.search rules, Prim.grind (arith, Self.row.coded.inj)) };
+    ghost fits = { label_fits };
 
     fn written_width() -> usize {
         Self::WIDTH

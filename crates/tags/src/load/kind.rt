@@ -4,9 +4,7 @@ ghost use Rattle.cells.specs.Refusals.{answer, refuse_if, Answer.gives};
 ghost use Rattle.tags.specs.Bounds.{top_load, top_zone, load_width};
 ghost use Rattle.tags.specs.Making.{shown, made};
 ghost use Rattle.tags.specs.Loads.{load_word, load_of, load_at, zoned_load, lighter};
-ghost use Rattle.tags.specs.TagKinds.{load_back, load_only, load_same};
-ghost use Rattle.std.proofs.Common.{rules, arith};
-ghost use Rattle.std.proofs.lemmas.Bool.Decides.{nat_tests};
+ghost use Rattle.tags.specs.TagKinds.{load_back, load_only, load_bytes, load_fits, lighter_total, lighter_same, lighter_through};
 
 use super::{LOADS_PER_ZONE, Load, TOP_LOAD, TOP_ZONE};
 use crate::kind::{RankedKind, TagKind};
@@ -53,9 +51,9 @@ impl TagKind for Load {
 
     ghost only = { load_only };
 
-    ghost bytes = { first_of (Prim.search rules, Prim.grind (arith, Self.row.coded.inj)) };
+    ghost bytes = { load_bytes };
 
-    ghost fits = { first_of (Prim.search rules, Prim.grind (arith, Self.row.coded.inj)) };
+    ghost fits = { load_fits };
 
     fn written_width() -> usize {
         Self::WIDTH
@@ -73,11 +71,11 @@ impl TagKind for Load {
 impl RankedKind for Load {
     ghost stricter = { lighter };
 
-    ghost total = { first_of (Prim.search rules, Prim.grind (arith, Self.row.coded.inj)) };
+    ghost total = { lighter_total };
 
-    ghost same = { λ a b p q. load_same a b (Prim.grind (arith, nat_tests)) (Prim.grind (arith, nat_tests)) };
+    ghost same = { lighter_same };
 
-    ghost through = { first_of (Prim.search rules, Prim.grind (arith, Self.row.coded.inj)) };
+    ghost through = { lighter_through };
 
     fn at_least_as_strict(&self, other: &Load) -> bool {
         if self.load == other.load {

@@ -4,9 +4,7 @@ ghost use Rattle.cells.specs.Refusals.{answer, refuse_if, Answer.gives};
 ghost use Rattle.tags.specs.Bounds.{top_speed, speed_width};
 ghost use Rattle.tags.specs.Making.{shown, made};
 ghost use Rattle.tags.specs.Speeds.{limit_of, speed_of, slower};
-ghost use Rattle.tags.specs.TagKinds.{speed_back, speed_only, speed_same};
-ghost use Rattle.std.proofs.Common.{rules, arith};
-ghost use Rattle.std.proofs.lemmas.Bool.{leb-true};
+ghost use Rattle.tags.specs.TagKinds.{speed_back, speed_only, speed_bytes, speed_fits, slower_total, slower_same, slower_through};
 
 use super::{Speed, TOP_SPEED};
 use crate::kind::{RankedKind, TagKind};
@@ -47,9 +45,9 @@ impl TagKind for Speed {
 
     ghost only = { speed_only };
 
-    ghost bytes = { first_of (Prim.search rules, Prim.grind (arith, Self.row.coded.inj)) };
+    ghost bytes = { speed_bytes };
 
-    ghost fits = { first_of (Prim.search rules, Prim.grind (arith, Self.row.coded.inj)) };
+    ghost fits = { speed_fits };
 
     fn written_width() -> usize {
         Self::WIDTH
@@ -67,11 +65,11 @@ impl TagKind for Speed {
 impl RankedKind for Speed {
     ghost stricter = { slower };
 
-    ghost total = { first_of (Prim.search rules, Prim.grind (arith, Self.row.coded.inj)) };
+    ghost total = { slower_total };
 
-    ghost same = { λ a b p q. speed_same a b (omega (arith, leb-true a.limit b.limit p, leb-true b.limit a.limit q)) };
+    ghost same = { slower_same };
 
-    ghost through = { first_of (Prim.search rules, Prim.grind (arith, Self.row.coded.inj)) };
+    ghost through = { slower_through };
 
     fn at_least_as_strict(&self, other: &Speed) -> bool {
         self.limit <= other.limit

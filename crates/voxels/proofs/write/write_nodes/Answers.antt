@@ -1,5 +1,5 @@
 use Rattle.std.proofs.Common.{◌≡◌, ◌+◌, ◌-◌, ◌*◌, ◌<◌, length, get_or, take, sym, refl, ap, ◌∙◌, subst, arith, rules}
-use Rattle.std.specs.List.{AllByRecursion as All}
+use Rattle.std.specs.List.{AllByRecursion}
 use Rattle.std.proofs.lemmas.List.{take_more, take_all}
 use Rattle.std.proofs.ByRecursion.{All-push}
 use Rattle.nodes.specs.Records.{blank}
@@ -18,7 +18,7 @@ loop-n-preserved g c =
     let part : c.copy_from_slice.new.self ≡ written (get_or ns n blank) = c.copy_from_slice.ensures.after ∙ value ∙ ap written node in
     let size : length c.copy_from_slice.new.self ≡ 50 = ap length c.copy_from_slice.ensures.after ∙ long in (
       front_more written node_bytes ns c.args.buffer.now n (50 * n) (50 * n + 50 - 50 * n) c.loop-n.buffer c.copy_from_slice.new.self blank lt refl (omega arith) (omega arith) part size c.loop-n.invariant.0,
-      subst (All Back) (sym (take_more ns n blank lt))
+      subst (AllByRecursion Back) (sym (take_more ns n blank lt))
           (All-push Back (take n ns) (get_or ns n blank) c.loop-n.invariant.1 (ap length (sym part) ∙ size, subst (λ x. read_node (written x) ≡ x) node (ap read_node (sym value) ∙ c.to_bytes-bytes.ensures.back))),
     )
 
@@ -29,5 +29,5 @@ returns g c =
     let bytes = front_all written node_bytes ns c.args.buffer.now c.loop-n.n c.loop-n.buffer e c.loop-n.invariant.0 in
     record {
       bytes = bytes;
-      back = ap (read_nodes (length ns)) bytes ∙ nodes_back ns _ (subst (All Back) (take_all c.loop-n.n ns (omega arith)) c.loop-n.invariant.1);
+      back = ap (read_nodes (length ns)) bytes ∙ nodes_back ns _ (subst (AllByRecursion Back) (take_all c.loop-n.n ns (omega arith)) c.loop-n.invariant.1);
     }

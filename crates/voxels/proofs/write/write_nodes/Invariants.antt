@@ -1,5 +1,5 @@
 use Rattle.std.proofs.Common.{take}
-use Rattle.std.specs.List.{AllByRecursion as All}
+use Rattle.std.specs.List.{AllByRecursion}
 use Rattle.nodes.specs.Format.{node_bytes, written}
 use Rattle.voxels.proofs.Writing.{Front, Back}
 use Rattle.voxels.proofs.write.write_nodes.Given as goal
@@ -8,4 +8,4 @@ use Rattle.voxels.proofs.write.write_nodes.Given as goal
 abbrev pub invariant-loop-n : goal.invariant-loop-n
 invariant-loop-n g l =
     Front written node_bytes l.n (g.P.NodePool.nodes l.pool) l.initial.buffer l.buffer
-    × All Back (take l.n (g.P.NodePool.nodes l.pool))
+    × AllByRecursion Back (take l.n (g.P.NodePool.nodes l.pool))
