@@ -1,5 +1,5 @@
 // The meaning of a pool of node records. Everything above is written against it and not against one pool.
-ghost use Rattle.std.specs.Prelude.{◌≡◌, ℕ, ◌≤◌, List, length, get_or, take, slice_index_or};
+ghost use Rattle.std.specs.Prelude.{◌≡◌, ℕ, ◌≤◌, List, length, take, slice_index_or};
 ghost use Rattle.cells.specs.Refusals.{answer, refuse_if, gives};
 ghost use Rattle.nodes.specs.declared.node.Node.{Node};
 ghost use Rattle.nodes.specs.Records.{blank, of_child};
@@ -41,19 +41,19 @@ pub trait NodePool {
 
     // The level of record n, or of a blank one past the end.
     fn level_at(&self, n: usize) -> u8
-        ensures { result ≡ (get_or (nodes self.now) n blank).level };
+        ensures { result ≡ (slice_index_or (nodes self.now) n blank).level };
 
     // The mask of record n, or of a blank one past the end.
     fn mask_at(&self, n: usize) -> u8
-        ensures { result ≡ (get_or (nodes self.now) n blank).mask };
+        ensures { result ≡ (slice_index_or (nodes self.now) n blank).mask };
 
     // Link i of record n, or of a blank one past the end; 0 where i is no child.
     fn link_at(&self, n: usize, i: usize) -> u16
-        ensures { result ≡ of_child i (get_or (nodes self.now) n blank).links };
+        ensures { result ≡ of_child i (slice_index_or (nodes self.now) n blank).links };
 
     // Offset i of record n, or of a blank one past the end; 0 where i is no child.
     fn offset_at(&self, n: usize, i: usize) -> u32
-        ensures { result ≡ of_child i (get_or (nodes self.now) n blank).offsets };
+        ensures { result ≡ of_child i (slice_index_or (nodes self.now) n blank).offsets };
 
     // Puts a record at the end and answers its number. A full pool refuses, and nothing changes.
     // The memory of the records that were there stays as it was.

@@ -9,7 +9,7 @@ use Rattle.voxels.specs.declared.phase.Phase.{Phase}
 use Rattle.voxels.specs.declared.phase.Phase.TheVariants.{Void, Open, Sealed}
 use Rattle.voxels.specs.declared.row.OpenRow.{OpenRow}
 use Rattle.voxels.specs.declared.map.Map.{Map}
-use Rattle.voxels.specs.Stands.{OpenAs, SealedAs}
+use Rattle.voxels.specs.Stands.{SealedAs}
 
 pub record Shown : Type 0 where
   pub phase : Phase
@@ -62,10 +62,6 @@ abbrev pub if_sealed : {A : Type 0} → Phase → Answer A → Answer A
 if_sealed (Void refusal) next = refuses (number_of refusal)
 if_sealed Open next = refuses 2
 if_sealed Sealed next = next
-
--- an open map that shows this stands for cells, in code order, and their tags
-abbrev pub ShowsOpen : {K : Type 0} → (K → ℕ) → ℕ → List ℕ → List K → Shown → Type 0
-ShowsOpen word_of L cells tags m = OpenAs word_of L cells tags m.phase m.levels m.last m.nodes m.rows m.words
 
 -- a sealed map that shows this stands for cells, in code order, and their tags
 abbrev pub ShowsSealed : {K : Type 0} → (K → ℕ) → ℕ → List ℕ → List K → Shown → Type 0

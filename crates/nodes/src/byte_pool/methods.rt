@@ -1,5 +1,5 @@
 // Making a byte pool, and its meaning as a pool.
-ghost use Rattle.std.specs.Prelude.{◌≡◌, ◌+◌, ◌*◌, ◌/◌, ◌≤◌, min, false, [], ◌∷◌, ◌++◌, length, get_or, take, drop, slice_index_or};
+ghost use Rattle.std.specs.Prelude.{◌≡◌, ◌+◌, ◌*◌, ◌/◌, ◌≤◌, min, false, [], ◌∷◌, ◌++◌, length, take, drop, slice_index_or};
 ghost use Rattle.nodes.specs.Records.{blank, of_child};
 ghost use Rattle.nodes.specs.Format.{Bytes, Fitting, node_bytes, read_node, read_nodes, value_of, written};
 ghost use Rattle.nodes.specs.Pools.{bytes as in_bytes, capped, capped_bounded, front, full};
@@ -56,7 +56,7 @@ impl Lent<'_, u8> {
     // The level of that record.
     fn level(&self, count: usize, n: usize) -> u8
         requires { node_bytes * count ≤ length self.now.places.now }
-        ensures { result ≡ (get_or (read_nodes count self.now.places.now) n blank).level }
+        ensures { result ≡ (slice_index_or (read_nodes count self.now.places.now) n blank).level }
     {
         if n < count {
             self.places[NODE_BYTES * n]
@@ -68,7 +68,7 @@ impl Lent<'_, u8> {
     // Its mask.
     fn mask(&self, count: usize, n: usize) -> u8
         requires { node_bytes * count ≤ length self.now.places.now }
-        ensures { result ≡ (get_or (read_nodes count self.now.places.now) n blank).mask }
+        ensures { result ≡ (slice_index_or (read_nodes count self.now.places.now) n blank).mask }
     {
         if n < count {
             self.places[NODE_BYTES * n + 1]
@@ -80,7 +80,7 @@ impl Lent<'_, u8> {
     // Its link i, or 0 where i is no child.
     fn link(&self, count: usize, n: usize, i: usize) -> u16
         requires { node_bytes * count ≤ length self.now.places.now }
-        ensures { result ≡ of_child i (get_or (read_nodes count self.now.places.now) n blank).links }
+        ensures { result ≡ of_child i (slice_index_or (read_nodes count self.now.places.now) n blank).links }
     {
         if n < count && i < CHILDREN {
             self.number(NODE_BYTES * n + LINKS_AT + LINK_BYTES * i, LINK_BYTES) as u16
@@ -92,7 +92,7 @@ impl Lent<'_, u8> {
     // Its offset i, or 0 where i is no child.
     fn offset(&self, count: usize, n: usize, i: usize) -> u32
         requires { node_bytes * count ≤ length self.now.places.now }
-        ensures { result ≡ of_child i (get_or (read_nodes count self.now.places.now) n blank).offsets }
+        ensures { result ≡ of_child i (slice_index_or (read_nodes count self.now.places.now) n blank).offsets }
     {
         if n < count && i < CHILDREN {
             self.number(NODE_BYTES * n + OFFSETS_AT + OFFSET_BYTES * i, OFFSET_BYTES)
