@@ -2,7 +2,6 @@
 // unless it is the list that the cells it marks seal to.
 use cells::hall::Cell;
 use cells::refusal::Refusal;
-use cells::row::Entry;
 use nodes::node::{NONE, Node};
 use nodes::pool::NodePool;
 use nodes::row_pool::RowPool;
@@ -68,9 +67,9 @@ fn sealed_again<P: NodePool + Drop, S: TagStore + Drop>(
     map.seal()?;
     Ok(
         map.node_count() == 3
-            && map.node(0).same(&list[0])
-            && map.node(1).same(&list[1])
-            && map.node(2).same(&list[2]),
+            && map.node(0) == list[0]
+            && map.node(1) == list[1]
+            && map.node(2) == list[2],
     )
 }
 

@@ -1,12 +1,16 @@
 // The one search: the lowest number of an entry of a row that equals a given one.
-ghost use Rattle.std.specs.Prelude.{◌≡◌, List, length, Decides};
+ghost use Rattle.std.specs.Prelude.{◌≡◌, true, List, length};
+ghost use Rattle.std.proofs.Common.{rules};
 ghost use Rattle.std.specs.List.{slice_get};
 ghost use Rattle.cells.specs.Rows.{Lowest};
 
-// An entry that can be compared with another of its type.
-pub trait Entry: Drop {
-    fn same(&self, other: &Self) -> bool
-        ensures { Decides result (self.now ≡ other.now) };
+// An entry that can be compared with another of its type. Only entries that are the same compare as equal.
+pub trait Entry: Eq + Copy {
+    // entries that compare as equal are the same
+    ghost same: { (a b : Self) → Self.eq a b ≡ true → a ≡ b };
+
+    // and each compares as equal to itself
+    ghost itself: { (a : Self) → Self.eq a a ≡ true };
 }
 
 // A row of entries, numbered from 0.
@@ -30,7 +34,7 @@ pub fn search<R: Row>(row: &R, wanted: &R::Item) -> Option<usize>
 {
     for n in 0..row.count() {
         if let Some(found) = row.entry(n) {
-            if found.same(wanted) {
+            if found == *wanted {
                 return Some(n);
             }
         }
@@ -39,44 +43,39 @@ pub fn search<R: Row>(row: &R, wanted: &R::Item) -> Option<usize>
 }
 
 impl Entry for u8 {
-    fn same(&self, other: &u8) -> bool {
-        *self == *other
-    }
+    ghost same = { Prim.search rules };
+
+    ghost itself = { Prim.search rules };
+}
+
+impl Entry for bool {
+    ghost same = { Prim.search rules };
+
+    ghost itself = { Prim.search rules };
 }
 
 impl Entry for u32 {
-    fn same(&self, word: &u32) -> bool {
-        *self == *word
-    }
+    ghost same = { Prim.search rules };
+
+    ghost itself = { Prim.search rules };
 }
 
-// Byte n, or absent past the end.
-fn byte_at(bytes: &[u8], n: usize) -> Option<u8>
-    ensures { result ≡ slice_get bytes.now n }
-{
-    if n < bytes.len() {
-        Some(bytes[n])
-    } else {
-        None
-    }
-}
-
-// Bytes as a row.
+// A slice as a row of its items.
 #[derive(Clone, Copy)]
-pub struct Bytes<'a> {
-    pub bytes: &'a [u8],
+pub struct Items<'a, T> {
+    pub items: &'a [T],
 }
 
-impl Row for Bytes<'_> {
-    type Item = u8;
+impl<T: Entry> Row for Items<'_, T> {
+    type Item = T;
 
-    ghost entries = { λ row. row.bytes.now };
+    ghost entries = { λ row. row.items.now };
 
     fn count(&self) -> usize {
-        self.bytes.len()
+        self.items.len()
     }
 
-    fn entry(&self, n: usize) -> Option<u8> {
-        byte_at(self.bytes, n)
+    fn entry(&self, n: usize) -> Option<T> {
+        self.items.get(n).copied()
     }
 }

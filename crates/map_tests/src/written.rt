@@ -1,6 +1,5 @@
 // Maps as bytes, and back.
 use cells::refusal::Refusal;
-use cells::row::Entry;
 use nodes::byte_pool::BytePool;
 use nodes::node::Node;
 use nodes::pool::NodePool;
@@ -61,7 +60,7 @@ fn same_records<P: NodePool, S: TagStore>(
     let pool = BytePool::over(nodes, 3);
     assert_eq!(rt; pool.count(), map.node_count());
     for n in 0..3 {
-        assert!(rt; pool.read(n).same(&map.node(n)));
+        assert_eq!(rt; pool.read(n), map.node(n));
     }
 }
 

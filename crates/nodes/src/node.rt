@@ -1,5 +1,6 @@
 // Node records: a level, a mask, and of each of eight children a link and an offset.
-ghost use Rattle.std.specs.Prelude.{◌≡◌, replicate, Decides};
+ghost use Rattle.std.specs.Prelude.{◌≡◌, replicate};
+ghost use Rattle.std.proofs.Common.{rules};
 ghost use Rattle.nodes.specs.Records.{blank, children};
 ghost use Rattle.nodes.specs.Format.{node_bytes, written};
 
@@ -18,7 +19,7 @@ pub const NODE_BYTES: usize = 50;
 pub const MOST_NODES: usize = 65_535;
 
 // Bit i of the mask, link i and offset i are those of child i.
-#[derive(Clone, Copy)]
+#[derive(Clone, Copy, PartialEq, Eq, Debug)]
 pub struct Node {
     pub level: u8,
     pub mask: u8,
@@ -51,22 +52,7 @@ fn alike(level: u8, mask: u8, link: u16, offset: u32) -> Node
 
 // Two records are the same if they are equal in all four parts.
 impl Entry for Node {
-    fn same(&self, other: &Node) -> bool {
-        self.level == other.level
-            && self.mask == other.mask
-            && same_links(&self.links, &other.links)
-            && same_offsets(&self.offsets, &other.offsets)
-    }
-}
+    ghost same = { Prim.search rules };
 
-fn same_links(a: &[u16; CHILDREN], b: &[u16; CHILDREN]) -> bool
-    ensures { Decides result (a.now ≡ b.now) }
-{
-    a == b
-}
-
-fn same_offsets(a: &[u32; CHILDREN], b: &[u32; CHILDREN]) -> bool
-    ensures { Decides result (a.now ≡ b.now) }
-{
-    a == b
+    ghost itself = { Prim.search rules };
 }

@@ -4,7 +4,6 @@ use crate::node::{NODE_BYTES, Node};
 use crate::pool::NodePool;
 use crate::row_pool::RowPool;
 use crate::tail::find;
-use cells::row::Entry;
 
 // A record that no blank equals.
 fn sample() -> Node {
@@ -22,7 +21,7 @@ fn no_room(rt: HostRuntime) {
     let mut pool = RowPool::over(&mut rows, 5);
     assert!(rt; pool.count() == 0);
     assert!(rt; pool.add(sample()).is_err());
-    assert!(rt; pool.read(0).same(&Node::blank()));
+    assert!(rt; pool.read(0) == Node::blank());
 }
 
 #[test]
@@ -36,8 +35,8 @@ fn full_pool(rt: HostRuntime) {
     assert!(rt; find(&pool, &sample(), 0) == Some(1));
     assert!(rt; find(&pool, &sample(), 2).is_none());
     pool.cut(1);
-    assert!(rt; pool.count() == 1 && pool.read(1).same(&Node::blank()));
-    assert!(rt; rows[1].same(&Node::blank()));
+    assert!(rt; pool.count() == 1 && pool.read(1) == Node::blank());
+    assert!(rt; rows[1] == Node::blank());
 }
 
 #[test]
@@ -45,7 +44,7 @@ fn count_above_capacity(rt: HostRuntime) {
     let mut rows = [sample(); 2];
     let pool = RowPool::over(&mut rows, 3);
     assert!(rt; pool.count() == 2);
-    assert!(rt; pool.read(1).same(&sample()) && pool.link_at(1, 7) == 258);
+    assert!(rt; pool.read(1) == sample() && pool.link_at(1, 7) == 258);
 }
 
 #[test]
@@ -55,7 +54,7 @@ fn part_record(rt: HostRuntime) {
     assert!(rt; pool.count() == 1 && pool.link_at(0, 0) == 1_799);
     assert!(rt; pool.add(sample()).is_ok());
     assert!(rt; pool.add(sample()).is_err());
-    assert!(rt; pool.read(1).same(&sample()) && pool.offset_at(1, 2) == 70_000);
+    assert!(rt; pool.read(1) == sample() && pool.offset_at(1, 2) == 70_000);
     pool.cut(1);
     assert!(rt; bytes[49] == 7 && bytes[50] == 0 && bytes[99] == 0 && bytes[100] == 7);
 }
@@ -64,5 +63,5 @@ fn part_record(rt: HostRuntime) {
 fn written_form(rt: HostRuntime) {
     let bytes = sample().to_bytes();
     assert!(rt; bytes[0] == 3 && bytes[1] == 129 && bytes[16] == 2 && bytes[17] == 1);
-    assert!(rt; bytes.len() == NODE_BYTES && Node::from_bytes(&bytes).same(&sample()));
+    assert!(rt; bytes.len() == NODE_BYTES && Node::from_bytes(&bytes) == sample());
 }

@@ -4,7 +4,7 @@ ghost use Rattle.cells.specs.Rows.{Lowest};
 ghost use Rattle.std.specs.Option.{option_map};
 ghost use Rattle.text.specs.Pieces.{pieces, cut_pieces};
 
-use cells::row::{Bytes, search};
+use cells::row::{Items, search};
 
 // A text cut at its first separator: what stands before it, and what follows. Without a separator nothing follows.
 #[derive(Clone, Copy)]
@@ -42,7 +42,7 @@ pub fn cut_at(bytes: &[u8], separator: u8) -> Cut<'_>
     ensures pieces { pieces separator bytes.now ≡ cut_pieces separator result.piece.now (option_map (λ x. x.now) result.rest) }
     ensures shorter { IfSome result.rest (λ rest. length rest.now < length bytes.now) }
 {
-    match search(&Bytes { bytes }, &separator) {
+    match search(&Items { items: bytes }, &separator) {
         None => whole(bytes, separator),
         Some(n) => parts(bytes, separator, n),
     }

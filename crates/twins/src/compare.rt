@@ -2,7 +2,6 @@
 ghost use Rattle.std.specs.Prelude.{◌≡◌, Decides};
 ghost use Rattle.voxels.specs.Shown.{shown};
 
-use cells::row::Entry;
 use nodes::pool::NodePool;
 use tags::kind::TagKind;
 use tags::store::TagStore;
@@ -19,7 +18,7 @@ pub fn same_nodes<P: NodePool, S: TagStore, K: TagKind, Q: NodePool, T: TagStore
         return false;
     }
     for n in 0..a.node_count() {
-        if !a.node(n).same(&b.node(n)) {
+        if a.node(n) != b.node(n) {
             return false;
         }
     }

@@ -5,31 +5,7 @@ ghost use Rattle.tags.specs.Blocks.{spelled};
 ghost use Rattle.tags.specs.Spots.{taken, Spot, Full, Put};
 
 use super::block::{BLOCK_WORDS, Block, PALETTE_PLACES};
-use cells::row::{Bytes, Row, search};
-
-// A palette's words as a row.
-#[derive(Clone, Copy)]
-struct Palette<'a> {
-    words: &'a [u32],
-}
-
-impl Row for Palette<'_> {
-    type Item = u32;
-
-    ghost entries = { λ row. row.words.now };
-
-    fn count(&self) -> usize {
-        self.words.len()
-    }
-
-    fn entry(&self, n: usize) -> Option<u32> {
-        if n < self.words.len() {
-            Some(self.words[n])
-        } else {
-            None
-        }
-    }
-}
+use cells::row::{Items, search};
 
 impl Block {
     // A block of zeros.
@@ -56,13 +32,13 @@ impl Block {
         requires { used ≤ block_words }
         ensures { MatchOption result ((p : ℕ) → p < palette_places → taken self.now.indices i p used ≡ true) (λ p. (p < palette_places) × (taken self.now.indices i p used ≡ false)) }
     {
-        let mut named = [0u8; PALETTE_PLACES];
+        let mut named = [false; PALETTE_PLACES];
         for n in 0..used {
             if n != i {
-                named[usize::from(self.indices[n]) % PALETTE_PLACES] = 1;
+                named[usize::from(self.indices[n]) % PALETTE_PLACES] = true;
             }
         }
-        search(&Bytes { bytes: &named }, &0)
+        search(&Items { items: &named }, &false)
     }
 
     // The place that has the word, else a free one.
@@ -70,13 +46,10 @@ impl Block {
         requires { used ≤ block_words }
         ensures { MatchOption result (Full self.now used i word) (Spot self.now used i word) }
     {
-        let row = Palette {
-            words: &self.palette,
+        let row = Items {
+            items: &self.palette,
         };
-        match search(&row, &word) {
-            Some(place) => Some(place),
-            None => self.free_place(used, i),
-        }
+        search(&row, &word).or_else(|| self.free_place(used, i))
     }
 
     // Puts a word at index i, beside the words of the first indices. Says whether there was room.
