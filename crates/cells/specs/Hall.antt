@@ -2,9 +2,13 @@
 use Rattle.std.specs.Prelude.{◌≡◌, ℕ, zero, suc, ◌+◌, ◌*◌, ◌/◌, ◌%◌, ◌^◌, Bool, ◌&&◌, nat_le, nat_lt}
 use Rattle.cells.specs.declared.hall.Cell.{Cell}
 
+-- no hall has more levels than this
+abbrev pub most_levels : ℕ
+most_levels = 10
+
 -- a hall has 1 to 10 levels
 abbrev pub levels_fit : ℕ → Bool
-levels_fit L = nat_le 1 L && nat_le L 10
+levels_fit L = nat_le 1 L && nat_le L most_levels
 
 -- the number of cells along each axis
 abbrev pub side : ℕ → ℕ

@@ -4,5 +4,7 @@
 
 pub mod boxes;
 pub mod hall;
+pub mod levels;
 pub mod refusal;
 pub mod row;
+pub mod shown;

@@ -1,10 +1,15 @@
 -- What a line of the file points at.
-use Rattle.std.specs.Prelude.{ℕ, ◌^◌, cond, not, ◌&&◌, List, [], ◌∷◌, drop, Some, None, Option, ◌==◌, nat_le, slice_index}
+use Rattle.std.specs.Prelude.{ℕ, ◌^◌, cond, not, ◌&&◌, List, [], ◌∷◌, ◌++◌, codes, decimal, drop, Some, None, Option, ◌==◌, nat_le, slice_index}
 use Rattle.cells.specs.Refusals.{Answer, gives, refuses, refuse_if}
 use Rattle.cells.specs.Hall.{levels_fit, cell_fits, code_of, cell_at}
 use Rattle.cells.specs.declared.hall.Cell.{Cell}
+use Rattle.cells.specs.Texts.{cell_text}
 use Rattle.text.specs.Numbers.{number_in}
 use Rattle.locate.specs.declared.line.Place.{Place}
+
+-- what is printed for a place
+abbrev pub place_text : Place → List ℕ
+place_text place = codes "cell " ++ (cell_text place.cell ++ (codes " code " ++ decimal place.code))
 
 -- a field that is no number makes its line a wrong line
 abbrev pub with_number : {A : Type 0} → Option ℕ → (ℕ → Answer A) → Answer A

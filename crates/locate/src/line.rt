@@ -1,35 +1,43 @@
 // One line of the file: a code, or a cell by its three coordinates.
-ghost use Rattle.std.specs.Prelude.{◌≡◌};
+ghost use Rattle.std.specs.Prelude.{◌≡◌, Some};
 ghost use Rattle.std.specs.Option.{option_map};
 ghost use Rattle.cells.specs.Refusals.{answer};
 ghost use Rattle.text.specs.Numbers.{number_in};
 ghost use Rattle.text.specs.Pieces.{pieces};
-ghost use Rattle.locate.specs.Lines.{with_number, with_cell, code_place, cell_place, line_answer, first_field, levels_answer};
+ghost use Rattle.locate.specs.Lines.{place_text, with_number, with_cell, code_place, cell_place, line_answer, first_field, levels_answer};
 
-use cells::hall::{Cell, cell_of, check_levels, code_of};
+use cells::hall::{Cell, code_of};
+use cells::levels::Levels;
 use cells::refusal::Refusal;
+use std::fmt;
 use text::number::{long_number, number};
 use text::piece::cut_at;
 
 // A cell of the hall with its code.
-#[derive(Clone, Copy)]
+#[derive(Clone, Copy, PartialEq, Eq, Debug)]
 pub struct Place {
     pub cell: Cell,
     pub code: u32,
+}
+
+impl fmt::Display for Place {
+    ghost output = { λ place. Some (place_text place) };
+
+    fn fmt<W: fmt::Write>(&self, f: &mut fmt::Formatter<W>) -> fmt::Result {
+        write!(f, "cell {} code {}", self.cell, self.code)
+    }
 }
 
 // The place of a code, as it is written in a field.
 fn place_of_code(levels: u32, field: &[u8]) -> Result<Place, Refusal>
     ensures { answer result ≡ with_number (number_in 10 field.now) (code_place levels) }
 {
-    let Some(number) = long_number(field) else {
-        return Err(Refusal::BadLine);
-    };
-    check_levels(levels)?;
+    let number = long_number(field).ok_or(Refusal::BadLine)?;
+    let levels = Levels::try_from(levels)?;
     let Ok(code) = u32::try_from(number) else {
         return Err(Refusal::Outside);
     };
-    let cell = cell_of(levels, code)?;
+    let cell = levels.cell_of(code)?;
     Ok(Place { cell, code })
 }
 
@@ -37,15 +45,9 @@ fn place_of_code(levels: u32, field: &[u8]) -> Result<Place, Refusal>
 fn place_of_cell(levels: u32, x: &[u8], y: &[u8], z: &[u8]) -> Result<Place, Refusal>
     ensures { answer result ≡ with_cell (number_in 6 x.now) (number_in 6 y.now) (number_in 6 z.now) (cell_place levels) }
 {
-    let Some(x) = number(x) else {
-        return Err(Refusal::BadLine);
-    };
-    let Some(y) = number(y) else {
-        return Err(Refusal::BadLine);
-    };
-    let Some(z) = number(z) else {
-        return Err(Refusal::BadLine);
-    };
+    let x = number(x).ok_or(Refusal::BadLine)?;
+    let y = number(y).ok_or(Refusal::BadLine)?;
+    let z = number(z).ok_or(Refusal::BadLine)?;
     let cell = Cell { x, y, z };
     let code = code_of(levels, cell)?;
     Ok(Place { cell, code })
@@ -60,9 +62,7 @@ pub fn locate_line(levels: u32, line: &[u8]) -> Result<Place, Refusal>
         return place_of_code(levels, first.piece);
     };
     let second = cut_at(rest, b' ');
-    let Some(rest) = second.rest else {
-        return Err(Refusal::BadLine);
-    };
+    let rest = second.rest.ok_or(Refusal::BadLine)?;
     let third = cut_at(rest, b' ');
     let None = third.rest else {
         return Err(Refusal::BadLine);
@@ -84,12 +84,7 @@ fn first_field(line: &[u8]) -> Option<&[u8]>
 pub fn levels_of(line: &[u8]) -> Result<u32, Refusal>
     ensures { answer result ≡ levels_answer line.now }
 {
-    let Some(field) = first_field(line) else {
-        return Err(Refusal::BadLine);
-    };
-    let Some(levels) = number(field) else {
-        return Err(Refusal::BadLine);
-    };
-    check_levels(levels)?;
-    Ok(levels)
+    let field = first_field(line).ok_or(Refusal::BadLine)?;
+    let levels = number(field).ok_or(Refusal::BadLine)?;
+    Ok(Levels::try_from(levels)?.count)
 }

@@ -8,46 +8,16 @@ ghost use Rattle.locate.specs.Report.{refusal_line, shown, summary, answers, end
 use crate::line::{Place, levels_of, locate_line};
 use cells::refusal::Refusal;
 use std::alloc::{AllocError, Global};
+use std::fmt::Write;
 use text::piece::cut_at;
 
 pub const MOST_BYTES: usize = 16_384;
 
 // The line that tells a refusal and where it came.
-fn refusal_line(heap: Global, number: u8, line: u32) -> Result<String, AllocError>
-    ensures { IfOk result (λ s. string_bytes s ≡ refusal_line number line) }
+fn refusal_line(heap: Global, refusal: Refusal, line: u32) -> Result<String, AllocError>
+    ensures { IfOk result (λ s. string_bytes s ≡ refusal_line (number_of refusal) line) }
 {
-    format!(in heap; "refused {number} at {line}\n")
-}
-
-// The line that tells a place.
-fn place_line(heap: Global, place: Place) -> Result<String, AllocError>
-    ensures { IfOk result (λ s. string_bytes s ≡ shown 0 (gives place)) }
-{
-    let x = place.cell.x;
-    let y = place.cell.y;
-    let z = place.cell.z;
-    let code = place.code;
-    format!(in heap; "cell {x} {y} {z} code {code}\n")
-}
-
-fn summary_line(heap: Global, located: u32, refused: u32) -> Result<String, AllocError>
-    ensures { IfOk result (λ s. string_bytes s ≡ summary located refused) }
-{
-    format!(in heap; "located {located} refused {refused}\n")
-}
-
-// The line that tells what a line of the file answered.
-fn answer_line(
-    heap: Global,
-    line: u32,
-    located: Result<Place, Refusal>,
-) -> Result<String, AllocError>
-    ensures { IfOk result (λ s. string_bytes s ≡ shown line (answer located)) }
-{
-    match located {
-        Ok(place) => place_line(heap, place),
-        Err(refusal) => refusal_line(heap, refusal.number(), line),
-    }
+    format!(in heap; "refused {refusal} at {line}\n")
 }
 
 // A report that is being written: its text, the next line of the file, and the counts so far.
@@ -61,26 +31,29 @@ struct Draft {
 
 impl Draft {
     // The answer of the next line.
-    fn note(&mut self, heap: Global, found: Result<Place, Refusal>) -> Result<(), AllocError>
+    fn note(&mut self, found: Result<Place, Refusal>) -> Result<(), AllocError>
         requires { (self.old.line < 2 ^ 31) × ((self.old.located < 2 ^ 31) × (self.old.refused < 2 ^ 31)) }
         ensures { OnOk result (Noted self.old (answer found) self.new) }
     {
         match found {
-            Ok(_) => self.located += 1,
-            Err(_) => self.refused += 1,
+            Ok(place) => {
+                self.located += 1;
+                writeln!(self.text, "{place}")?;
+            }
+            Err(refusal) => {
+                self.refused += 1;
+                writeln!(self.text, "refused {refusal} at {}", self.line)?;
+            }
         }
-        let text = answer_line(heap, self.line, found)?;
-        self.text.push_str(text.as_str())?;
         self.line += 1;
         Ok(())
     }
 
     // The summary, and with it the whole text.
-    fn close(mut self, heap: Global) -> Result<String, AllocError>
+    fn close(mut self) -> Result<String, AllocError>
         ensures { IfOk result (λ s. string_bytes s ≡ string_bytes self.text ++ summary self.located self.refused) }
     {
-        let text = summary_line(heap, self.located, self.refused)?;
-        self.text.push_str(text.as_str())?;
+        writeln!(self.text, "located {} refused {}", self.located, self.refused)?;
         let Draft {
             text,
             line: _,
@@ -91,15 +64,15 @@ impl Draft {
     }
 
     // The end of the file: what stands behind the last line feed is no line, or one without its line feed.
-    fn finish(mut self, heap: Global, last: &[u8]) -> Result<String, AllocError>
+    fn finish(mut self, last: &[u8]) -> Result<String, AllocError>
         requires { (self.line < 2 ^ 31) × ((self.located < 2 ^ 31) × (self.refused < 2 ^ 31)) }
         ensures { IfOk result (λ s. string_bytes s ≡ string_bytes self.text ++ answers self.line self.located self.refused (end_answers last.now)) }
     {
         if last.is_empty() {
-            return self.close(heap);
+            return self.close();
         }
-        self.note(heap, Err(Refusal::BadLine))?;
-        self.close(heap)
+        self.note(Err(Refusal::BadLine))?;
+        self.close()
     }
 }
 
@@ -118,9 +91,9 @@ fn report_lines(heap: Global, levels: u32, lines: &[u8]) -> Result<String, Alloc
     loop {
         let next = cut_at(rest, b'\n');
         let Some(after) = next.rest else {
-            return draft.finish(heap, next.piece);
+            return draft.finish(next.piece);
         };
-        draft.note(heap, locate_line(levels, next.piece))?;
+        draft.note(locate_line(levels, next.piece))?;
         rest = after;
     }
 }
@@ -130,14 +103,14 @@ pub fn report(heap: Global, file: &[u8]) -> Result<String, AllocError>
     ensures { IfOk result (λ s. string_bytes s ≡ report_of file.now) }
 {
     if file.len() > MOST_BYTES {
-        return refusal_line(heap, Refusal::BadLine.number(), 0);
+        return refusal_line(heap, Refusal::BadLine, 0);
     }
     let first = cut_at(file, b'\n');
     let Some(lines) = first.rest else {
-        return refusal_line(heap, Refusal::BadLine.number(), 1);
+        return refusal_line(heap, Refusal::BadLine, 1);
     };
     match levels_of(first.piece) {
         Ok(levels) => report_lines(heap, levels, lines),
-        Err(refusal) => refusal_line(heap, refusal.number(), 1),
+        Err(refusal) => refusal_line(heap, refusal, 1),
     }
 }

@@ -21,14 +21,12 @@ fn numeral(bytes: &[u8], most: usize) -> Option<u64>
     Some(value)
 }
 
-// A number of 1 to 6 digits.
+// A number of 1 to 6 digits. It and the longer one stay two calls: one call for any number of digits would have to say
+// what it answers past 64 bits, which no format asks.
 pub fn number(bytes: &[u8]) -> Option<u32>
     ensures { result ≡ number_in 6 bytes.now }
 {
-    match numeral(bytes, 6) {
-        Some(value) => Some(value as u32),
-        None => None,
-    }
+    numeral(bytes, 6).map(|value| value as u32)
 }
 
 // A number of 1 to 10 digits.

@@ -15,7 +15,6 @@ returns-in-Ok c =
 pub returns-in-Err : goal.returns-in-Err
 returns-in-Err c =
     subst (λ bs. IfOk c.refusal_line-in-Err.result (λ s. string_bytes s ≡ bs))
-    (ap (λ n. refusal_line n 1) c.number-in-Err.ensures
-    ∙ report_is c.args.file.now c.cut_at-first.result.piece.now c.in-Some.lines.now (refuses (number_of c.in-Err.refusal)) (omega arith)
+    (report_is c.args.file.now c.cut_at-first.result.piece.now c.in-Some.lines.now (refuses (number_of c.in-Err.refusal)) (omega arith)
     (cut_more 10 _ _ _ c.in-Some.lines c.cut_at-first.ensures.pieces c.in-Some.is) c.in-Err.ensures)
     c.refusal_line-in-Err.ensures

@@ -3,24 +3,24 @@ use Rattle.cells.specs.Hall.{code_of, cell_at, CodeBits}
 use Rattle.cells.specs.declared.hall.Cell.{Cell}
 use Rattle.cells.proofs.Digits.{digits_none}
 use Rattle.cells.proofs.Codes.{code_digit, code_more, code_fits, code_below, code_bits, code_back, cell_fits_lem}
-use Rattle.cells.proofs.hall.interleave.Goals as goal
+use Rattle.cells.proofs.levels.Levels.interleave.Goals as goal
 
 pub loop-j-init : goal.loop-j-init
-loop-j-init c = sym (digits_none 8 (code_digit (record { x = c.args.x; y = c.args.y; z = c.args.z })))
+loop-j-init c = sym (digits_none 8 (code_digit c.args.cell))
 
 pub overflow_add-code : goal.overflow_add-code
 overflow_add-code c =
-    let d : Cell = record { x = c.args.x; y = c.args.y; z = c.args.z } in
+    let d = c.args.cell in
     rw (c.loop-j.invariant, code_more c.loop-j.j d (omega arith)) (omega (arith, code_fits (c.loop-j.j + 1) d (omega arith)))
 
 pub loop-j-preserved : goal.loop-j-preserved
 loop-j-preserved c =
-    rw c.loop-j.invariant (code_more c.loop-j.j (record { x = c.args.x; y = c.args.y; z = c.args.z }) (omega arith))
+    rw c.loop-j.invariant (code_more c.loop-j.j c.args.cell (omega arith))
 
 pub returns : goal.returns
 returns c =
-    let L = c.args.levels in
-    let d : Cell = record { x = c.args.x; y = c.args.y; z = c.args.z } in
+    let L = c.args.self.count in
+    let d = c.args.cell in
     let e : c.loop-j.code ≡ code_of L d = c.loop-j.invariant ∙ ap (λ j. code_of j d) (omega arith) in
     record {
       value = e;

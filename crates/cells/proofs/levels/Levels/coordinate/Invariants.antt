@@ -1,6 +1,6 @@
 use Rattle.std.proofs.Common.{◌≡◌}
 use Rattle.cells.specs.Hall.{axis}
-use Rattle.cells.proofs.hall.coordinate.Given as goal
+use Rattle.cells.proofs.levels.Levels.coordinate.Given as goal
 
 -- the bits below j are in their places
 abbrev pub invariant-loop-j : goal.invariant-loop-j

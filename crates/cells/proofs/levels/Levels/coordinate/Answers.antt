@@ -2,7 +2,7 @@ use Rattle.std.proofs.Common.{◌+◌, ◌*◌, sym, ap, ◌∙◌, arith}
 use Rattle.cells.specs.Hall.{axis, bit}
 use Rattle.cells.proofs.Digits.{digits_none}
 use Rattle.cells.proofs.Codes.{axis_more, axis_fits}
-use Rattle.cells.proofs.hall.coordinate.Goals as goal
+use Rattle.cells.proofs.levels.Levels.coordinate.Goals as goal
 
 pub loop-j-init : goal.loop-j-init
 loop-j-init c = sym (digits_none 2 (λ j. bit (3 * j + c.args.first) c.args.code))

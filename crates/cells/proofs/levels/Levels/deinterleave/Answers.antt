@@ -1,11 +1,11 @@
 use Rattle.std.proofs.Common.{◌≡◌, true, sym, subst}
 use Rattle.cells.specs.Hall.{cell_fits, cell_at, code_of}
 use Rattle.cells.proofs.Codes.{cell_back, axis_below, cell_fits_back, in_sub_cubes}
-use Rattle.cells.proofs.hall.deinterleave.Goals as goal
+use Rattle.cells.proofs.levels.Levels.deinterleave.Goals as goal
 
 pub returns : goal.returns
 returns c =
-    let L = c.args.levels in
+    let L = c.args.self.count in
     let n = c.args.code in
     let e : cell_at L n ≡ record { x = c.coordinate-x.result; y = c.coordinate-y.result; z = c.coordinate-z.result } =
     λ i. record { x = sym c.coordinate-x.ensures i; y = sym c.coordinate-y.ensures i; z = sym c.coordinate-z.ensures i } in
