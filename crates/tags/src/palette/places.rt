@@ -33,9 +33,9 @@ impl Block {
         ensures { MatchOption result ((p : ℕ) → p < palette_places → taken self.now.indices i p used ≡ true) (λ p. (p < palette_places) × (taken self.now.indices i p used ≡ false)) }
     {
         let mut named = [false; PALETTE_PLACES];
-        for n in 0..used {
+        for (n, index) in self.indices[..used].iter().enumerate() {
             if n != i {
-                named[usize::from(self.indices[n]) % PALETTE_PLACES] = true;
+                named[usize::from(*index) % PALETTE_PLACES] = true;
             }
         }
         search(&Items { items: &named }, &false)
