@@ -1,24 +1,29 @@
 -- What a palette store holds after a word was put at place n, and when it has no room for it.
-use Rattle.std.proofs.Common.{◌≡◌, ℕ, ◌+◌, ◌-◌, ◌*◌, ◌/◌, ◌%◌, ◌<◌, ◌≤◌, min, true, false, ◌≢◌, ◌⊎◌, List, [], ◌∷◌, ◌++◌, length, get_or, set, Some, None, sym, refl, ap, ◌∙◌, subst, ⊎_elim, arith, length-set}
+use Rattle.std.proofs.Common.{◌≡◌, ℕ, ◌+◌, ◌-◌, ◌*◌, ◌/◌, ◌%◌, ◌<◌, ◌≤◌, min, true, false, ◌≢◌, Bool, cond, not, Ok, Err, Result, List, [], ◌∷◌, ◌++◌, length, get_or, set, Some, sym, refl, ap, ◌∙◌, subst, ⊎_elim, arith, length-set}
 use Rattle.std.specs.List.{slice_get}
-use Rattle.std.proofs.lemmas.List.{get_or-set_same, get_or-set_other, get_or_append_left, get_or_push, length_push, ext_get_or, get_or_default}
-use Rattle.std.proofs.lemmas.Option.{slice_get-get_or, slice_get_past}
-use Rattle.std.proofs.lemmas.Bool.{cases_eq, and_left, and_right, and_from, lt-leb, lt-ltb, le-ltb}
+use Rattle.std.specs.Result.{OnOk, OnErr, IsOkUnless}
+use Rattle.std.proofs.lemmas.List.{set-get_or, get_or-set_same, get_or-set_other, get_or_append_left, get_or_push, length_push, ext_get_or, get_or_default}
+use Rattle.std.proofs.lemmas.Option.{slice_get-get_or}
+use Rattle.std.proofs.lemmas.Bool.{cases_eq, and_left, and_right, and_from, lt-leb, lt-ltb, le-ltb, cond-true, cond-false}
+use Rattle.cells.specs.declared.refusal.Refusal.{Refusal}
+use Rattle.cells.specs.declared.refusal.Refusal.TheVariants.{StoreFull}
+use Rattle.cells.specs.Refusals.{Answer, answer, number_of, refuse_if}
 use Rattle.tags.specs.declared.palette.block.Block.{Block}
 use Rattle.tags.specs.Stores.{most_words, can_add, can_change}
 use Rattle.tags.specs.Palettes.{block_words, is_in, words_of_block, palette_admits}
 use Rattle.tags.specs.Blocks.{blank, spelled, palette_words, NamesLowest, Tidy}
 use Rattle.tags.specs.Spots.{Full, Put}
+use Rattle.tags.proofs.Takes.{answer_accepted, answer_refused}
 use Rattle.tags.proofs.Spelling.{words_long, words_at, in_block, too_many, palette_held}
 use Rattle.tags.proofs.Puts.{spells_kept, spells_new, lowest_kept, lowest_new, full_many}
 
-pub palette_word : (blocks : List Block) (count : ℕ) → count ≤ length blocks * block_words → (n : ℕ) → n < count → Some (get_or (spelled (get_or blocks (n / block_words) blank)) (n % block_words) 0) ≡ slice_get (palette_words blocks count) n
-palette_word blocks count room n low =
+-- word n is what its block spells there
+pub palette_word : (blocks : List Block) (count : ℕ) → count ≤ length blocks * block_words → (n : ℕ) → n < count → (b : Block) → b ≡ get_or blocks (n / block_words) b → Some (get_or (spelled b) (n % block_words) 0) ≡ slice_get (palette_words blocks count) n
+palette_word blocks count room n low b is =
     let long = words_long blocks count room in
-    sym (slice_get-get_or (palette_words blocks count) n 0 (omega arith) ∙ ap (λ x. Some x) (words_at blocks count room n low))
-
-pub palette_absent : (blocks : List Block) (count : ℕ) → count ≤ length blocks * block_words → (n : ℕ) → count ≤ n → None ≡ slice_get (palette_words blocks count) n
-palette_absent blocks count room n high = let long = words_long blocks count room in sym (slice_get_past (palette_words blocks count) n (omega arith))
+    let block = is ∙ get_or_default blocks (n / block_words) b blank (omega arith) in
+    ap (λ x. Some (get_or (spelled x) (n % block_words) 0)) block
+    ∙ sym (slice_get-get_or (palette_words blocks count) n 0 (omega arith) ∙ ap (λ x. Some x) (words_at blocks count room n low))
 
 -- how many words of the block of word n are in use
 abbrev pub used_at : ℕ → ℕ → ℕ
@@ -171,6 +176,14 @@ pub record Took (blocks later : List Block) (count : ℕ) (after : List ℕ) : T
   pub held : palette_admits (length later) (palette_words later count) ≡ true
   pub tidy : Tidy later count
 
+-- what a store answers, and has, after it was offered a word: it took the word, or it is as it was
+pub record Offered (blocks later : List Block) (count : ℕ) (after : List ℕ) (r : Result (Unit {0}) Refusal) (takes : Bool) : Type 0 where
+  pub answer : answer r ≡ refuse_if (not takes) 7 (Answer.gives tt)
+  pub words : palette_words later count ≡ cond takes after (palette_words blocks count)
+  pub fits : count ≤ min (length later * block_words) most_words
+  pub held : palette_admits (length later) (palette_words later count) ≡ true
+  pub tidy : Tidy later count
+
 module _ (blocks : List Block) (count : ℕ) (fits : count ≤ min (length blocks * block_words) most_words) (tidy : Tidy blocks count) (n w : ℕ) (near : n ≤ count) (there : n < length blocks * block_words) (d : Block) (used : ℕ) (is-used : used ≡ used_at count n) where
   block_read : get_or blocks (n / block_words) d ≡ get_or blocks (n / block_words) blank
   block_read = get_or_default blocks (n / block_words) d blank (omega arith)
@@ -201,8 +214,8 @@ module _ (blocks : List Block) (count : ℕ) (fits : count ≤ min (length block
 
 module _ (blocks : List Block) (count : ℕ) (fits : count ≤ min (length blocks * block_words) most_words) (tidy : Tidy blocks count) (w : ℕ) where
   -- a store that holds as many words as it can admits none more
-  pub no_room : (most_words ≤ count) ⊎ (length blocks ≤ count / block_words) → can_add (palette_admits (length blocks)) (palette_words blocks count) w ≡ false
-  no_room end =
+  pub no_room : min (length blocks * block_words) most_words ≤ count → can_add (palette_admits (length blocks)) (palette_words blocks count) w ≡ false
+  no_room full =
       let long = words_long blocks count (omega arith) in
       let more = length_push (palette_words blocks count) w in
       and_left _ _ (lt-leb (length (palette_words blocks count ++ w ∷ [])) (min (length blocks * block_words) most_words) (omega arith))
@@ -240,7 +253,28 @@ module _ (blocks : List Block) (count : ℕ) (fits : count ≤ min (length block
       took blocks count fits tidy n w (omega arith) (omega arith) d used is-used c put
       (set (palette_words blocks count) n w) count (changed_set (palette_words blocks count) n w (omega arith)) (omega arith) (omega arith)
 
-  -- a word that is there and whose change is admitted can be changed
-  pub can_change_lem : (n : ℕ) → n < count → palette_admits (length blocks) (set (palette_words blocks count) n w) ≡ true → can_change (palette_admits (length blocks)) (palette_words blocks count) n w ≡ true
-  can_change_lem n low admitted =
-      let long = words_long blocks count (omega arith) in and_from _ _ (lt-ltb n (length (palette_words blocks count)) (omega arith)) admitted
+  -- what a store answers and has, after word n was offered another word
+  pub change_offered : (n : ℕ) (d c : Block) (used : ℕ) (r : Result (Unit {0}) Refusal) → n < count → used ≡ used_at count n → OnOk r (Put (get_or blocks (n / block_words) d) c used (n % block_words) w) → OnErr r (Full (get_or blocks (n / block_words) d) used (n % block_words) w) → OnErr r (c ≡ get_or blocks (n / block_words) d) → IsOkUnless r StoreFull → Offered blocks (set blocks (n / block_words) c) count (set (palette_words blocks count) n w) r (can_change (palette_admits (length blocks)) (palette_words blocks count) n w)
+  change_offered n d c used (Ok tt) low is-used put full kept refusal =
+      let long = words_long blocks count (omega arith) in
+      let took = change_took n d c used low is-used put in
+      let accepted : can_change (palette_admits (length blocks)) (palette_words blocks count) n w ≡ true
+      = and_from _ _ (lt-ltb n (length (palette_words blocks count)) (omega arith)) took.accepted in
+      record {
+        answer = answer_accepted _ accepted;
+        words = took.words ∙ sym (cond-true _ _ _ accepted);
+        fits = took.fits;
+        held = took.held;
+        tidy = took.tidy;
+      }
+  change_offered n d c used (Err e) low is-used put full kept refusal =
+      let none = change_none n d used low is-used full in
+      let same : set blocks (n / block_words) c ≡ blocks = ap (set blocks (n / block_words)) kept ∙ set-get_or blocks (n / block_words) d in
+      let P : List Block → Type 0 = λ later. Offered blocks later count (set (palette_words blocks count) n w) (Err e) (can_change (palette_admits (length blocks)) (palette_words blocks count) n w) in
+      subst P (sym same) (record {
+        answer = ap (λ x. Answer.refuses (number_of x)) refusal ∙ answer_refused _ none;
+        words = sym (cond-false _ _ _ none);
+        fits = fits;
+        held = palette_held blocks count (omega arith) (omega arith);
+        tidy = tidy;
+      })

@@ -1,10 +1,12 @@
 // The places of a block's palette: what an index names, and where a word can go.
-ghost use Rattle.std.specs.Prelude.{◌≡◌, ℕ, ◌<◌, ◌≤◌, true, false, replicate, MatchBool, MatchOption, slice_index};
+ghost use Rattle.std.specs.Prelude.{◌≡◌, ℕ, ◌<◌, ◌≤◌, true, false, replicate, MatchOption, OnOk, OnErr, IsOkUnless, slice_index};
+ghost use Rattle.cells.specs.declared.refusal.Refusal.TheVariants.{StoreFull};
 ghost use Rattle.tags.specs.Palettes.{block_words, palette_places};
 ghost use Rattle.tags.specs.Blocks.{spelled};
 ghost use Rattle.tags.specs.Spots.{taken, Spot, Full, Put};
 
 use super::block::{BLOCK_WORDS, Block, PALETTE_PLACES};
+use cells::refusal::Refusal;
 use cells::row::{Items, search};
 
 impl Block {
@@ -52,18 +54,17 @@ impl Block {
         search(&row, &word).or_else(|| self.free_place(used, i))
     }
 
-    // Puts a word at index i, beside the words of the first indices. Says whether there was room.
-    pub(super) fn put(&mut self, used: usize, i: usize, word: u32) -> bool
+    // Puts a word at index i, beside the words of the first indices, if there is room.
+    pub(super) fn put(&mut self, used: usize, i: usize, word: u32) -> Result<(), Refusal>
         requires { (used ≤ block_words) × (i < block_words) }
-        ensures { MatchBool result (Put self.old self.new used i word) (Full self.old used i word × (self.new ≡ self.old)) }
+        ensures put { OnOk result (Put self.old self.new used i word) }
+        ensures full { OnErr result (Full self.old used i word) }
+        ensures kept { OnErr result (self.new ≡ self.old) }
+        ensures refusal { IsOkUnless result StoreFull }
     {
-        match self.place_for(used, i, word) {
-            Some(place) => {
-                self.palette[place] = word;
-                self.indices[i] = place as u8;
-                true
-            }
-            None => false,
-        }
+        let place = self.place_for(used, i, word).ok_or(Refusal::StoreFull)?;
+        self.palette[place] = word;
+        self.indices[i] = place as u8;
+        Ok(())
     }
 }
