@@ -13,6 +13,7 @@ use cells::refusal::Refusal;
 
 impl<'a> PaletteStore<'a> {
     // An empty store over lent blocks, whatever they hold.
+    #[tactic(auto, using(crate::specs::Palettes::palette_none))]
     pub fn new(blocks: &'a mut [Block]) -> PaletteStore<'a>
         ensures words { palette_words result.blocks.now result.count ≡ [] }
         ensures rule { palette_admits (length result.blocks.now) ≡ palette_admits (length blocks.old) }
@@ -28,6 +29,7 @@ impl TagStore for PaletteStore<'_> {
 
     ghost laws = { record { none = λ s. palette_none (length s.blocks.now); most = λ s. palette_most (length s.blocks.now); held = λ s. s.held } };
 
+    #[tactic(auto, using(crate::proofs::Spelling::words_long))]
     fn count(&self) -> usize {
         self.count // words in use
     }
@@ -67,6 +69,7 @@ impl TagStore for PaletteStore<'_> {
         blocks[k].put(used, n % BLOCK_WORDS, word)
     }
 
+    #[tactic(auto, using(crate::specs::Palettes::palette_none))]
     fn empty(&mut self) {
         self.count = 0;
     }
