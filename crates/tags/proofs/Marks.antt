@@ -1,20 +1,14 @@
 -- Which places of a palette other indices name, and the free place that a search over marks finds.
-use Rattle.std.proofs.Common.{◌≡◌, ℕ, zero, suc, ◌+◌, ◌<◌, Bool, true, false, not, ◌&&◌, ◌||◌, eqb, List, [], ◌∷◌, length, get_or, set, Some, None, Option, sym, refl, ap, ◌∙◌, subst, ⊎_elim, add-one, arith, length-set, MatchOption}
+use Rattle.std.proofs.Common.{◌≡◌, ℕ, zero, suc, ◌+◌, ◌<◌, Bool, true, false, not, ◌&&◌, ◌||◌, eqb, List, [], ◌∷◌, length, get_or, Some, None, Option, sym, refl, ap, ◌∙◌, subst, ⊎_elim, add-one, arith, MatchOption}
 use Rattle.std.specs.List.{slice_get}
-use Rattle.std.proofs.lemmas.List.{get_or-set_same, get_or-set_other}
 use Rattle.std.proofs.lemmas.Option.{slice_get-get_or}
-use Rattle.std.proofs.lemmas.Nat.{mod_below}
-use Rattle.std.proofs.lemmas.Bool.{eq-eqb, ne_eqb, and_from, and_left, and_right, or_left, or_right, cases_eq, cases_Bool, not_from_true, not_from_false, and_parts, or_cases, eqb-true, eqb-false, not-true, both_ways, or_from, cases_lt}
+use Rattle.std.proofs.lemmas.Bool.{eq-eqb, ne_eqb, and_from, or_left, or_right, cases_eq, not_from_false, and_parts, or_cases, eqb-true, eqb-false, not-true, both_ways, or_from, cases_lt}
 use Rattle.cells.specs.Rows.{Lowest}
 use Rattle.cells.proofs.Places.{nth_inside}
 use Rattle.tags.specs.declared.palette.block.Block.{Block}
 use Rattle.tags.specs.Palettes.{palette_places, is_in}
 use Rattle.tags.specs.Blocks.{place_of}
 use Rattle.tags.specs.Spots.{taken, Spot, Full}
-
-or_false_left : (x y : Bool) → x ≡ false → (x || y) ≡ y
-or_false_left true y e = absurd (both_ways true e refl)
-or_false_left false y e = refl
 
 module _ (indices : List ℕ) (i p : ℕ) where
   pub taken_more : (n : ℕ) → taken indices i p (n + 1) ≡ ((not (eqb n i) && eqb (place_of (get_or indices n 0)) p) || taken indices i p n)
@@ -23,12 +17,6 @@ module _ (indices : List ℕ) (i p : ℕ) where
   pub taken_here : (n : ℕ) → (n ≡ i → ⊥) → place_of (get_or indices n 0) ≡ p → taken indices i p (n + 1) ≡ true
   taken_here n other same =
       taken_more n ∙ or_left _ _ (and_from _ _ (not_from_false _ (ne_eqb n i other)) (eq-eqb _ p same))
-
-  pub taken_apart : (n : ℕ) → (place_of (get_or indices n 0) ≡ p → ⊥) → taken indices i p (n + 1) ≡ taken indices i p n
-  taken_apart n apart = taken_more n ∙ or_false_left _ _ (and_right _ _ (ne_eqb _ p apart))
-
-  pub taken_itself : (n : ℕ) → n ≡ i → taken indices i p (n + 1) ≡ taken indices i p n
-  taken_itself n same = taken_more n ∙ or_false_left _ _ (and_left _ _ (not_from_true _ (eq-eqb n i same)))
 
   -- an index that names the place takes it
   pub taken_from : (j n : ℕ) → j < n → (j ≡ i → ⊥) → place_of (get_or indices j 0) ≡ p → taken indices i p n ≡ true
@@ -62,39 +50,6 @@ FreePlace indices i used r =
 -- marks stand at the places that other indices name
 abbrev pub Marked : List Bool → List ℕ → ℕ → ℕ → Type 0
 Marked marks indices i n = (length marks ≡ palette_places) × ((p : ℕ) → p < palette_places → get_or marks p false ≡ taken indices i p n)
-
-module _ (marks : List Bool) (indices : List ℕ) (i n : ℕ) (marked : Marked marks indices i n) where
-  -- one turn of the marking, at another index and at index i
-  pub marked_other : (n ≡ i → ⊥) → Marked (set marks (place_of (get_or indices n 0)) true) indices i (n + 1)
-  marked_other other =
-      let long = marked.0 in
-      let inside : place_of (get_or indices n 0) < length marks = omega (arith, mod_below (get_or indices n 0) palette_places (omega arith)) in (
-        length-set marks _ true ∙ long,
-        λ p low.
-            ⊎_elim
-            (λ same. ap (λ q. get_or (set marks q true) p false) same ∙ get_or-set_same marks p true false (omega arith) ∙ sym (taken_here indices i p n other same))
-            (λ apart. get_or-set_other marks (place_of (get_or indices n 0)) p true false (λ e. apart (sym e)) ∙ marked.1 p low
-            ∙ sym (taken_apart indices i p n apart))
-            (cases_eq (place_of (get_or indices n 0)) p),
-      )
-
-  pub marked_itself : n ≡ i → Marked marks indices i (n + 1)
-  marked_itself same = (marked.0, λ p low. marked.1 p low ∙ sym (taken_itself indices i p n same))
-
-  -- a search for a place without a mark finds a free one, if there is one
-  pub free_found : (r : Option ℕ) → Lowest marks false r → FreePlace indices i n r
-  free_found None none =
-      let long = marked.0 in
-      λ p low. ⊎_elim (λ t. t)
-      (λ f. absurd (none p (slice_get-get_or marks p false (omega arith) ∙ ap (λ x. Some x) (marked.1 p low ∙ f))))
-      (cases_Bool (taken indices i p n))
-  free_found (Some p) found =
-      let long = marked.0 in
-      let inside = nth_inside marks p false found.0 in
-      let low : p < palette_places = omega arith in
-      let clear : Some (get_or marks p false) ≡ Some false = sym (slice_get-get_or marks p false inside) ∙ found.0 in
-      let none : get_or marks p false ≡ false = cc in
-      (low, sym (marked.1 p low) ∙ none)
 
 -- a word that is not in a list stands at no place of it
 missing_in : (w : ℕ) (xs : List ℕ) → ((k : ℕ) → slice_get xs k ≡ Some w → ⊥) → is_in w xs ≡ false

@@ -4,7 +4,7 @@ use Rattle.std.specs.List.{slice_get}
 use Rattle.std.specs.Result.{OnOk, OnErr, IsOkUnless}
 use Rattle.std.proofs.lemmas.List.{set-get_or, get_or-set_same, get_or-set_other, get_or_append_left, get_or_push, length_push, ext_get_or, get_or_default}
 use Rattle.std.proofs.lemmas.Option.{slice_get-get_or}
-use Rattle.std.proofs.lemmas.Bool.{cases_eq, and_left, and_right, and_from, lt-leb, lt-ltb, le-ltb, cond-true, cond-false}
+use Rattle.std.proofs.lemmas.Bool.{cases_eq, and_left, and_right, and_from, lt-leb, lt-ltb, cond-true, cond-false}
 use Rattle.cells.specs.declared.refusal.Refusal.{Refusal}
 use Rattle.cells.specs.declared.refusal.Refusal.TheVariants.{StoreFull}
 use Rattle.cells.specs.Refusals.{Answer, answer, number_of, refuse_if}
@@ -24,6 +24,13 @@ palette_word blocks count room n low b is =
     let block = is ∙ get_or_default blocks (n / block_words) b blank (omega arith) in
     ap (λ x. Some (get_or (spelled x) (n % block_words) 0)) block
     ∙ sym (slice_get-get_or (palette_words blocks count) n 0 (omega arith) ∙ ap (λ x. Some x) (words_at blocks count room n low))
+
+-- a store that holds as many words as it can admits none more
+pub no_room : (blocks : List Block) (count w : ℕ) → count ≤ length blocks * block_words → min (length blocks * block_words) most_words ≤ count → palette_admits (length blocks) (palette_words blocks count ++ w ∷ []) ≡ false
+no_room blocks count w room full =
+    let long = words_long blocks count room in
+    let more = length_push (palette_words blocks count) w in
+    and_left _ _ (lt-leb (length (palette_words blocks count ++ w ∷ [])) (min (length blocks * block_words) most_words) (omega arith))
 
 -- how many words of the block of word n are in use
 abbrev pub used_at : ℕ → ℕ → ℕ
@@ -213,13 +220,6 @@ module _ (blocks : List Block) (count : ℕ) (fits : count ≤ min (length block
       refused blocks count (omega arith) tidy n w near there full' after changed
 
 module _ (blocks : List Block) (count : ℕ) (fits : count ≤ min (length blocks * block_words) most_words) (tidy : Tidy blocks count) (w : ℕ) where
-  -- a store that holds as many words as it can admits none more
-  pub no_room : min (length blocks * block_words) most_words ≤ count → can_add (palette_admits (length blocks)) (palette_words blocks count) w ≡ false
-  no_room full =
-      let long = words_long blocks count (omega arith) in
-      let more = length_push (palette_words blocks count) w in
-      and_left _ _ (lt-leb (length (palette_words blocks count ++ w ∷ [])) (min (length blocks * block_words) most_words) (omega arith))
-
   pub add_none : (d : Block) → count / block_words < length blocks → Full (get_or blocks (count / block_words) d) (count % block_words) (count % block_words) w → can_add (palette_admits (length blocks)) (palette_words blocks count) w ≡ false
   add_none d room full =
       let long = words_long blocks count (omega arith) in
@@ -234,10 +234,6 @@ module _ (blocks : List Block) (count : ℕ) (fits : count ≤ min (length block
       let P : ℕ → Type 0 = λ k. Changed (palette_words blocks count) (palette_words blocks count ++ w ∷ []) k w in
       took blocks count fits tidy count w (omega arith) (omega arith) d (count % block_words) (omega arith) c put
       (palette_words blocks count ++ w ∷ []) (count + 1) (subst P long (changed_add (palette_words blocks count) w)) (omega arith) (omega arith)
-
-  pub no_word : (n : ℕ) → count ≤ n → can_change (palette_admits (length blocks)) (palette_words blocks count) n w ≡ false
-  no_word n past =
-      let long = words_long blocks count (omega arith) in and_left _ _ (le-ltb n (length (palette_words blocks count)) (omega arith))
 
   pub change_none : (n : ℕ) (d : Block) (used : ℕ) → n < count → used ≡ used_at count n → Full (get_or blocks (n / block_words) d) used (n % block_words) w → can_change (palette_admits (length blocks)) (palette_words blocks count) n w ≡ false
   change_none n d used low is-used full =

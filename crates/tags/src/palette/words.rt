@@ -42,6 +42,7 @@ impl TagStore for PaletteStore<'_> {
         Some(blocks[n / BLOCK_WORDS].word(n % BLOCK_WORDS))
     }
 
+    #[tactic(auto, using(crate::proofs::PaletteTakes::no_room))]
     fn add(&mut self, word: u32) -> Result<(), Refusal> {
         if self.count
             >= self
