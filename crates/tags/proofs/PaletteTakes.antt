@@ -4,16 +4,15 @@ use Rattle.std.specs.List.{slice_get}
 use Rattle.std.specs.Result.{OnOk, OnErr, IsOkUnless}
 use Rattle.std.proofs.lemmas.List.{set-get_or, get_or-set_same, get_or-set_other, get_or_append_left, get_or_push, length_push, ext_get_or, get_or_default}
 use Rattle.std.proofs.lemmas.Option.{slice_get-get_or}
-use Rattle.std.proofs.lemmas.Bool.{cases_eq, and_left, and_right, and_from, lt-leb, lt-ltb, cond-true, cond-false}
+use Rattle.std.proofs.lemmas.Bool.{cases_eq, and_left, and_right, and_from, lt-leb, lt-ltb}
 use Rattle.cells.specs.declared.refusal.Refusal.{Refusal}
 use Rattle.cells.specs.declared.refusal.Refusal.TheVariants.{StoreFull}
-use Rattle.cells.specs.Refusals.{Answer, answer, number_of, refuse_if}
+use Rattle.cells.specs.Refusals.{Answer, answer, refuse_if}
 use Rattle.tags.specs.declared.palette.block.Block.{Block}
 use Rattle.tags.specs.Stores.{most_words, can_add, can_change}
 use Rattle.tags.specs.Palettes.{block_words, is_in, words_of_block, palette_admits}
 use Rattle.tags.specs.Blocks.{blank, spelled, palette_words, NamesLowest, Tidy}
 use Rattle.tags.specs.Spots.{Full, Put}
-use Rattle.tags.proofs.Takes.{answer_accepted, answer_refused}
 use Rattle.tags.proofs.Spelling.{words_long, words_at, in_block, too_many, palette_held}
 use Rattle.tags.proofs.Puts.{spells_kept, spells_new, lowest_kept, lowest_new, full_many}
 
@@ -257,8 +256,8 @@ module _ (blocks : List Block) (count : ℕ) (fits : count ≤ min (length block
       let accepted : can_change (palette_admits (length blocks)) (palette_words blocks count) n w ≡ true
       = and_from _ _ (lt-ltb n (length (palette_words blocks count)) (omega arith)) took.accepted in
       record {
-        answer = answer_accepted _ accepted;
-        words = took.words ∙ sym (cond-true _ _ _ accepted);
+        answer = rw accepted refl;
+        words = rw accepted took.words;
         fits = took.fits;
         held = took.held;
         tidy = took.tidy;
@@ -268,8 +267,8 @@ module _ (blocks : List Block) (count : ℕ) (fits : count ≤ min (length block
       let same : set blocks (n / block_words) c ≡ blocks = ap (set blocks (n / block_words)) kept ∙ set-get_or blocks (n / block_words) d in
       let P : List Block → Type 0 = λ later. Offered blocks later count (set (palette_words blocks count) n w) (Err e) (can_change (palette_admits (length blocks)) (palette_words blocks count) n w) in
       subst P (sym same) (record {
-        answer = ap (λ x. Answer.refuses (number_of x)) refusal ∙ answer_refused _ none;
-        words = sym (cond-false _ _ _ none);
+        answer = rw (none, refusal) refl;
+        words = rw none refl;
         fits = fits;
         held = palette_held blocks count (omega arith) (omega arith);
         tidy = tidy;
