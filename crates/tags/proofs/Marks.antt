@@ -1,37 +1,26 @@
 -- Which places of a palette other indices name, and the free place that a search over marks finds.
-use Rattle.std.proofs.Common.{◌≡◌, ℕ, zero, suc, ◌+◌, ◌<◌, Bool, true, false, not, ◌&&◌, ◌||◌, eqb, List, [], ◌∷◌, length, get_or, Some, None, Option, sym, refl, ap, ◌∙◌, subst, ⊎_elim, add-one, arith, MatchOption}
+use Rattle.std.proofs.Common.{◌≡◌, ℕ, zero, suc, ◌<◌, Bool, true, false, not, eqb, List, [], ◌∷◌, length, ◌≢◌, get_or, Some, None, Option, sym, refl, ap, ◌∙◌, subst, ⊎_elim, arith, MatchOption}
 use Rattle.std.specs.List.{slice_get}
-use Rattle.std.proofs.lemmas.Option.{slice_get-get_or}
+use Rattle.std.proofs.lemmas.Option.{slice_get-get_or, slice_get_within}
 use Rattle.std.proofs.lemmas.Bool.{eq-eqb, ne_eqb, and_from, or_left, or_right, cases_eq, not_from_false, and_parts, or_cases, eqb-true, eqb-false, not-true, both_ways, or_from, cases_lt}
 use Rattle.cells.specs.Rows.{Lowest}
-use Rattle.cells.proofs.Places.{nth_inside}
 use Rattle.tags.specs.declared.palette.block.Block.{Block}
 use Rattle.tags.specs.Palettes.{palette_places, is_in}
 use Rattle.tags.specs.Blocks.{place_of}
 use Rattle.tags.specs.Spots.{taken, Spot, Full}
 
 module _ (indices : List ℕ) (i p : ℕ) where
-  pub taken_more : (n : ℕ) → taken indices i p (n + 1) ≡ ((not (eqb n i) && eqb (place_of (get_or indices n 0)) p) || taken indices i p n)
-  taken_more n = ap (taken indices i p) (add-one n)
-
-  pub taken_here : (n : ℕ) → (n ≡ i → ⊥) → place_of (get_or indices n 0) ≡ p → taken indices i p (n + 1) ≡ true
-  taken_here n other same =
-      taken_more n ∙ or_left _ _ (and_from _ _ (not_from_false _ (ne_eqb n i other)) (eq-eqb _ p same))
-
   -- an index that names the place takes it
-  pub taken_from : (j n : ℕ) → j < n → (j ≡ i → ⊥) → place_of (get_or indices j 0) ≡ p → taken indices i p n ≡ true
+  pub taken_from : (j n : ℕ) → j < n → j ≢ i → place_of (get_or indices j 0) ≡ p → taken indices i p n ≡ true
   taken_from j zero low other same = absurd (omega arith)
   taken_from j (suc n) low other same =
       ⊎_elim
-      (λ e. let P : ℕ → Type 0 = λ m. taken indices i p m ≡ true in
-      let here : taken indices i p (j + 1) ≡ true = taken_here j other same in
-      let last : j + 1 ≡ suc n = omega arith in
-      subst P last here)
+      (λ e. rw (← e) (or_left _ _ (and_from _ _ (not_from_false _ (ne_eqb j i other)) (eq-eqb _ p same))))
       (λ ne. or_right _ _ (taken_from j n (omega arith) other same))
       (cases_eq j n)
 
   -- and a place that is taken is named by an index
-  pub taken_by : (n : ℕ) → taken indices i p n ≡ true → (j : ℕ) × (j < n) × (j ≡ i → ⊥) × (place_of (get_or indices j 0) ≡ p)
+  pub taken_by : (n : ℕ) → taken indices i p n ≡ true → (j : ℕ) × (j < n) × (j ≢ i) × (place_of (get_or indices j 0) ≡ p)
   taken_by zero e = absurd (both_ways false refl e)
   taken_by (suc n) e =
       ⊎_elim
@@ -60,7 +49,7 @@ missing_in w (x ∷ xs) none =
 module _ (b : Block) (used i w : ℕ) where
   pub spot_found : (p : ℕ) → Lowest b.palette w (Some p) → Spot b used i w p
   spot_found p found =
-      let inside = nth_inside b.palette p w found.0 in
+      let inside = slice_get_within b.palette p w found.0 in
       let long = b.places in
       let there : Some (get_or b.palette p 0) ≡ Some w = sym (slice_get-get_or b.palette p 0 inside) ∙ found.0 in
       let has : get_or b.palette p 0 ≡ w = cc in
