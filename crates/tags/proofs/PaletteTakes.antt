@@ -13,7 +13,7 @@ use Rattle.tags.specs.Stores.{most_words, can_add, can_change}
 use Rattle.tags.specs.Palettes.{block_words, is_in, words_of_block, palette_admits}
 use Rattle.tags.specs.Blocks.{blank, spelled, palette_words, NamesLowest, Tidy}
 use Rattle.tags.specs.Spots.{Full, Put}
-use Rattle.tags.proofs.Spelling.{words_long, words_at, in_block, too_many, palette_held}
+use Rattle.tags.proofs.Spelling.{spelt, spelt_at, words_long, words_at, in_block, too_many, palette_held}
 use Rattle.tags.proofs.Puts.{spells_kept, spells_new, lowest_kept, lowest_new, full_many}
 
 -- word n is what its block spells there
@@ -61,21 +61,16 @@ module _ (blocks : List Block) (count : ℕ) (room : count ≤ length blocks * b
     block_new : get_or (set blocks (n / block_words) c) (n / block_words) blank ≡ c
     block_new = get_or-set_same blocks (n / block_words) c blank (omega arith)
 
-    spells_other : (m : ℕ) → m < count → (m ≡ n → ⊥) → get_or (spelled (get_or (set blocks (n / block_words) c) (m / block_words) blank)) (m % block_words) 0 ≡ get_or (spelled (get_or blocks (m / block_words) blank)) (m % block_words) 0
+    spells_other : (m : ℕ) → m < count → (m ≡ n → ⊥) → spelt (set blocks (n / block_words) c) m ≡ spelt blocks m
     spells_other m low other =
         ⊎_elim
-        (λ same.
-        ap (λ k. get_or (spelled (get_or (set blocks (n / block_words) c) k blank)) (m % block_words) 0) same
-        ∙ ap (λ x. get_or (spelled x) (m % block_words) 0) block_new
-        ∙ spells_kept (get_or blocks (n / block_words) blank) c (used_at count n) (n % block_words) w used_inside i_here put (m % block_words) (index_used m low same) (index_other m same other)
-        ∙ sym (ap (λ k. get_or (spelled (get_or blocks k blank)) (m % block_words) 0) same))
-        (λ apart. ap (λ x. get_or (spelled x) (m % block_words) 0) (get_or-set_other blocks (n / block_words) (m / block_words) c blank apart))
+        (λ same. rw same (rw block_new
+        (spells_kept (get_or blocks (n / block_words) blank) c (used_at count n) (n % block_words) w used_inside i_here put (m % block_words) (index_used m low same) (index_other m same other))))
+        (λ apart. rw (get_or-set_other blocks (n / block_words) (m / block_words) c blank apart) refl)
         (cases_eq (m / block_words) (n / block_words))
 
-    spells_there : get_or (spelled (get_or (set blocks (n / block_words) c) (n / block_words) blank)) (n % block_words) 0 ≡ w
-    spells_there =
-        ap (λ x. get_or (spelled x) (n % block_words) 0) block_new
-        ∙ spells_new (get_or blocks (n / block_words) blank) c (used_at count n) (n % block_words) w used_inside i_here put
+    spells_there : spelt (set blocks (n / block_words) c) n ≡ w
+    spells_there = rw block_new (spells_new (get_or blocks (n / block_words) blank) c (used_at count n) (n % block_words) w used_inside i_here put)
 
     -- the words then are the list with the word at place n
     pub words_after : (after : List ℕ) → Changed (palette_words blocks count) after n w → length after ≤ length blocks * block_words → palette_words (set blocks (n / block_words) c) (length after) ≡ after
@@ -87,8 +82,7 @@ module _ (blocks : List Block) (count : ℕ) (room : count ≤ length blocks * b
         ext_get_or 0 _ after long' (λ m low.
         words_at (set blocks (n / block_words) c) (length after) more m (omega arith)
         ∙ ⊎_elim
-        (λ e. ap (λ k. get_or (spelled (get_or (set blocks (n / block_words) c) (k / block_words) blank)) (k % block_words) 0) e ∙ spells_there
-        ∙ sym (ap (λ k. get_or after k 0) e ∙ changed.new))
+        (λ e. rw e (spells_there ∙ sym changed.new))
         (λ ne. let m-low : m < count = omega (arith, changed.no_more m (omega arith) ne) in
         spells_other m m-low ne ∙ sym (words_at blocks count room m m-low) ∙ sym (changed.others m (omega arith) ne))
         (cases_eq m n))
@@ -96,29 +90,19 @@ module _ (blocks : List Block) (count : ℕ) (room : count ≤ length blocks * b
     tidy_other : (m : ℕ) → m < count → (m ≡ n → ⊥) → NamesLowest (get_or (set blocks (n / block_words) c) (m / block_words) blank) (m % block_words)
     tidy_other m low other =
         ⊎_elim
-        (λ same.
-        let P : ℕ → Type 0 = λ k. NamesLowest (get_or (set blocks (n / block_words) c) k blank) (m % block_words) in
-        let Q : Block → Type 0 = λ x. NamesLowest x (m % block_words) in
-        let R : ℕ → Type 0 = λ k. NamesLowest (get_or blocks k blank) (m % block_words) in
-        subst P (sym same)
-        (subst Q (sym block_new)
+        (λ same. rw same (rw block_new
         (lowest_kept (get_or blocks (n / block_words) blank) c (used_at count n) (n % block_words) w used_inside i_here put (m % block_words) (index_used m low same) (index_other m same other)
-        (subst R same (tidy m low)))))
-        (λ apart. let Q : Block → Type 0 = λ x. NamesLowest x (m % block_words) in
-        subst Q (sym (get_or-set_other blocks (n / block_words) (m / block_words) c blank apart)) (tidy m low))
+        (rw same at (tidy m low)))))
+        (λ apart. rw (get_or-set_other blocks (n / block_words) (m / block_words) c blank apart) (tidy m low))
         (cases_eq (m / block_words) (n / block_words))
 
     tidy_there : NamesLowest (get_or (set blocks (n / block_words) c) (n / block_words) blank) (n % block_words)
-    tidy_there =
-        let Q : Block → Type 0 = λ x. NamesLowest x (n % block_words) in
-        subst Q (sym block_new)
-        (lowest_new (get_or blocks (n / block_words) blank) c (used_at count n) (n % block_words) w used_inside i_here put)
+    tidy_there = rw block_new (lowest_new (get_or blocks (n / block_words) blank) c (used_at count n) (n % block_words) w used_inside i_here put)
 
     pub tidy_after : (later : ℕ) → ((m : ℕ) → m < later → (m ≡ n → ⊥) → m < count) → Tidy (set blocks (n / block_words) c) later
     tidy_after later no_more m low =
         ⊎_elim
-        (λ e. let P : ℕ → Type 0 = λ k. NamesLowest (get_or (set blocks (n / block_words) c) (k / block_words) blank) (k % block_words) in
-        subst P (sym e) tidy_there)
+        (λ e. rw e tidy_there)
         (λ ne. tidy_other m (no_more m low ne) ne)
         (cases_eq m n)
 
@@ -135,18 +119,15 @@ module _ (blocks : List Block) (count : ℕ) (room : count ≤ length blocks * b
       let quotient : (k * block_words + j) / block_words ≡ k = omega arith in
       let rest : (k * block_words + j) % block_words ≡ j = omega arith in
       let m-low : k * block_words + j < count = omega arith in
-      let P : ℕ → ℕ → Type 0 = λ q r. NamesLowest (get_or blocks q blank) r in
-      subst (λ (r : ℕ). P k r) rest (subst (λ (q : ℕ). P q ((k * block_words + j) % block_words)) quotient (tidy (k * block_words + j) m-low)))
+      rw rest at (rw quotient at (tidy (k * block_words + j) m-low)))
       (words_of_block k after)
       (λ j low other.
       let quotient : (k * block_words + j) / block_words ≡ k = omega arith in
-      let rest : (k * block_words + j) % block_words ≡ j = omega arith in
       let m-low : k * block_words + j < count = omega arith in
       let apart : k * block_words + j ≡ n → ⊥ = λ e. other (omega arith) in
       let spell : get_or after (k * block_words + j) 0 ≡ get_or (spelled block) j 0
       = changed.others (k * block_words + j) (omega arith) apart ∙ words_at blocks count room (k * block_words + j) m-low
-      ∙ ap (λ q. get_or (spelled (get_or blocks q blank)) ((k * block_words + j) % block_words) 0) quotient
-      ∙ ap (λ r. get_or (spelled block) r 0) rest in
+      ∙ spelt_at blocks k j (omega arith) in
       ap (λ v. is_in v (words_of_block k after)) (sym spell) ∙ in_block after k (k * block_words + j) (omega arith) quotient)
       (ap (λ v. is_in v (words_of_block k after)) (sym changed.new) ∙ in_block after k n inside refl) in
       and_right _ _ (too_many after k (length blocks) (omega arith) many)
@@ -196,8 +177,7 @@ module _ (blocks : List Block) (count : ℕ) (fits : count ≤ min (length block
 
   pub took : (c : Block) → Put (get_or blocks (n / block_words) d) c used (n % block_words) w → (after : List ℕ) (later : ℕ) → Changed (palette_words blocks count) after n w → later ≡ length after → later ≤ min (length blocks * block_words) most_words → Took blocks (set blocks (n / block_words) c) later after
   took c put after later changed long room =
-      let P : Block → ℕ → Type 0 = λ b u. Put b c u (n % block_words) w in
-      let put' = subst (λ (u : ℕ). P (get_or blocks (n / block_words) blank) u) is-used (subst (λ (b : Block). P b used) block_read put) in
+      let put' = rw is-used at (rw block_read at put) in
       let later-words : palette_words (set blocks (n / block_words) c) later ≡ after
       = ap (palette_words (set blocks (n / block_words) c)) long
       ∙ words_after blocks count (omega arith) tidy n w near there c put' after changed (omega arith) in
@@ -214,25 +194,22 @@ module _ (blocks : List Block) (count : ℕ) (fits : count ≤ min (length block
 
   pub took_none : Full (get_or blocks (n / block_words) d) used (n % block_words) w → (after : List ℕ) → Changed (palette_words blocks count) after n w → palette_admits (length blocks) after ≡ false
   took_none full after changed =
-      let P : Block → ℕ → Type 0 = λ b u. Full b u (n % block_words) w in
-      let full' = subst (λ (u : ℕ). P (get_or blocks (n / block_words) blank) u) is-used (subst (λ (b : Block). P b used) block_read full) in
+      let full' = rw is-used at (rw block_read at full) in
       refused blocks count (omega arith) tidy n w near there full' after changed
 
 module _ (blocks : List Block) (count : ℕ) (fits : count ≤ min (length blocks * block_words) most_words) (tidy : Tidy blocks count) (w : ℕ) where
   pub add_none : (d : Block) → count / block_words < length blocks → Full (get_or blocks (count / block_words) d) (count % block_words) (count % block_words) w → can_add (palette_admits (length blocks)) (palette_words blocks count) w ≡ false
   add_none d room full =
       let long = words_long blocks count (omega arith) in
-      let P : ℕ → Type 0 = λ k. Changed (palette_words blocks count) (palette_words blocks count ++ w ∷ []) k w in
       took_none blocks count fits tidy count w (omega arith) (omega arith) d (count % block_words) (omega arith) full
-      (palette_words blocks count ++ w ∷ []) (subst P long (changed_add (palette_words blocks count) w))
+      (palette_words blocks count ++ w ∷ []) (rw long at (changed_add (palette_words blocks count) w))
 
   pub add_took : (d c : Block) → count < most_words → count / block_words < length blocks → Put (get_or blocks (count / block_words) d) c (count % block_words) (count % block_words) w → Took blocks (set blocks (count / block_words) c) (count + 1) (palette_words blocks count ++ w ∷ [])
   add_took d c few room put =
       let long = words_long blocks count (omega arith) in
       let more = length_push (palette_words blocks count) w in
-      let P : ℕ → Type 0 = λ k. Changed (palette_words blocks count) (palette_words blocks count ++ w ∷ []) k w in
       took blocks count fits tidy count w (omega arith) (omega arith) d (count % block_words) (omega arith) c put
-      (palette_words blocks count ++ w ∷ []) (count + 1) (subst P long (changed_add (palette_words blocks count) w)) (omega arith) (omega arith)
+      (palette_words blocks count ++ w ∷ []) (count + 1) (rw long at (changed_add (palette_words blocks count) w)) (omega arith) (omega arith)
 
   pub change_none : (n : ℕ) (d : Block) (used : ℕ) → n < count → used ≡ used_at count n → Full (get_or blocks (n / block_words) d) used (n % block_words) w → can_change (palette_admits (length blocks)) (palette_words blocks count) n w ≡ false
   change_none n d used low is-used full =
