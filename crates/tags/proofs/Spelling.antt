@@ -1,5 +1,5 @@
 -- The words that blocks spell, by their numbers.
-use Rattle.std.proofs.Common.{◌≡◌, ℕ, zero, suc, ◌+◌, ◌-◌, ◌*◌, ◌/◌, ◌%◌, ◌<◌, ◌≤◌, min, true, false, List, [], ◌∷◌, length, get_or, drop, sym, refl, ap, ◌∙◌, subst, ⊎_elim, arith, length-append, length-drop, length-take}
+use Rattle.std.proofs.Common.{◌≡◌, ℕ, zero, suc, ◌+◌, ◌-◌, ◌*◌, ◌/◌, ◌%◌, ◌<◌, ◌≤◌, min, true, false, List, [], ◌∷◌, length, get_or, drop, sym, refl, ap, ◌∙◌, ⊎_elim, arith, length-append, length-drop, length-take}
 use lib.ListN.{length-map}
 use Rattle.std.specs.List.{flat_map}
 use Rattle.std.proofs.lemmas.List.{get_or_append_left, get_or-append_right, get_or-take, get_or-drop, get_or-map, length-take-le}
@@ -44,14 +44,12 @@ all_at (b ∷ bs) n h =
     (λ first.
     let quotient : n / block_words ≡ 0 = omega arith in
     let rest : n % block_words ≡ n = omega arith in
-    get_or_append_left (spelled b) (flat_map spelled bs) 0 n (omega arith)
-    ∙ sym (ap (λ k. get_or (spelled (get_or (b ∷ bs) k blank)) (n % block_words) 0) quotient ∙ ap (λ i. get_or (spelled b) i 0) rest))
+    rw quotient (rw rest (get_or_append_left (spelled b) (flat_map spelled bs) 0 n (omega arith))))
     (λ later.
-    let quotient : n / block_words ≡ suc ((n - 64) / block_words) = omega arith in
-    let rest : n % block_words ≡ (n - 64) % block_words = omega arith in
-    get_or-append_right (spelled b) (flat_map spelled bs) 64 n 0 long later ∙ all_at bs (n - 64) (omega arith)
-    ∙ sym (ap (λ k. get_or (spelled (get_or (b ∷ bs) k blank)) (n % block_words) 0) quotient
-    ∙ ap (λ i. get_or (spelled (get_or bs ((n - 64) / block_words) blank)) i 0) rest))
+    let quotient : n / block_words ≡ suc ((n - block_words) / block_words) = omega arith in
+    let rest : n % block_words ≡ (n - block_words) % block_words = omega arith in
+    let below = all_at bs (n - block_words) (omega arith) in
+    rw quotient (rw rest (get_or-append_right (spelled b) (flat_map spelled bs) block_words n 0 long later ∙ below)))
     (cases_lt n block_words)
 
 module _ (blocks : List Block) (count : ℕ) (room : count ≤ length blocks * block_words) where
@@ -82,7 +80,7 @@ pub too_many : (words : List ℕ) (k blocks : ℕ) → k < blocks → palette_pl
 too_many words k zero low many = absurd (omega arith)
 too_many words k (suc blocks) low many =
     ⊎_elim
-    (λ e. let P : ℕ → Type 0 = λ m. palette_places < distinct (words_of_block m words) in and_left _ _ (lt-leb _ _ (subst P e many)))
+    (λ e. and_left _ _ (lt-leb _ _ (rw e at many)))
     (λ ne. and_right _ _ (too_many words k blocks (omega arith) many))
     (cases_eq k blocks)
 
