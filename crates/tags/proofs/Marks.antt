@@ -7,7 +7,7 @@ use Rattle.cells.specs.Rows.{Lowest}
 use Rattle.tags.specs.declared.palette.block.Block.{Block}
 use Rattle.tags.specs.Palettes.{palette_places, is_in}
 use Rattle.tags.specs.Blocks.{place_of}
-use Rattle.tags.specs.Spots.{taken, Spot, Full}
+use Rattle.tags.specs.Spots.{taken, FreePlace, Spot, Full}
 
 module _ (indices : List ℕ) (i p : ℕ) where
   -- an index that names the place takes it
@@ -30,11 +30,6 @@ module _ (indices : List ℕ) (i p : ℕ) where
       let low = found.1 in
       (found.0, omega arith, found.2, found.3))
       (or_cases _ _ e)
-
--- what a search for a free place answers
-abbrev pub FreePlace : List ℕ → ℕ → ℕ → Option ℕ → Type 0
-FreePlace indices i used r =
-    MatchOption r ((p : ℕ) → p < palette_places → taken indices i p used ≡ true) (λ p. (p < palette_places) × (taken indices i p used ≡ false))
 
 -- marks stand at the places that other indices name
 abbrev pub Marked : List Bool → List ℕ → ℕ → ℕ → Type 0

@@ -2,6 +2,7 @@
 use Rattle.std.specs.Prelude.{◌≡◌, ℕ, zero, suc, ◌*◌, ◌≤◌, min, Bool, true, ◌&&◌, List, [], length, take, drop, nat_eq, nat_le, refl}
 use Rattle.std.specs.Set.{is_member, distinct_count}
 use Rattle.std.proofs.Common.{ap, ◌∙◌, arith, leb-true, le-leb}
+use Rattle.std.proofs.Math.Seq.{drop-nil}
 use Rattle.std.proofs.lemmas.Bool.{and_from, and_parts}
 use Rattle.tags.specs.Stores.{most_words}
 
@@ -36,11 +37,8 @@ palette_admits blocks words = nat_le (length words) (min (blocks * block_words) 
 
 few_none : (blocks : ℕ) → few_each blocks [] ≡ true
 few_none zero = refl
-few_none (suc k) = ap (λ words. nat_le (distinct words) palette_places && few_each k []) (none_of (k * block_words)) ∙ few_none k
-  where
-    none_of : (n : ℕ) → take block_words (drop {A = ℕ} n []) ≡ []
-    none_of zero = refl
-    none_of (suc n) = refl
+few_none (suc k) =
+    ap (λ rest. nat_le (distinct (take block_words rest)) palette_places && few_each k []) (drop-nil (k * block_words)) ∙ few_none k
 
 -- the empty list is admitted
 pub palette_none : (blocks : ℕ) → palette_admits blocks [] ≡ true

@@ -3,7 +3,7 @@ ghost use Rattle.std.specs.Prelude.{◌≡◌, ℕ, ◌<◌, ◌≤◌, true, fa
 ghost use Rattle.cells.specs.declared.refusal.Refusal.TheVariants.{StoreFull};
 ghost use Rattle.tags.specs.Palettes.{block_words, palette_places};
 ghost use Rattle.tags.specs.Blocks.{spelled};
-ghost use Rattle.tags.specs.Spots.{taken, Spot, Full, Put};
+ghost use Rattle.tags.specs.Spots.{FreePlace, Spot, Full, Put};
 
 use super::block::{BLOCK_WORDS, Block, PALETTE_PLACES};
 use cells::refusal::Refusal;
@@ -32,7 +32,7 @@ impl Block {
     // The lowest place that none of the first indices names, index i left out.
     fn free_place(&self, used: usize, i: usize) -> Option<usize>
         requires { used ≤ block_words }
-        ensures { MatchOption result ((p : ℕ) → p < palette_places → taken self.now.indices i p used ≡ true) (λ p. (p < palette_places) × (taken self.now.indices i p used ≡ false)) }
+        ensures { FreePlace self.now.indices i used result }
     {
         let mut named = [false; PALETTE_PLACES];
         for (n, index) in self.indices[..used].iter().enumerate() {
