@@ -2,12 +2,19 @@
 ghost use Rattle.std.specs.Prelude.{◌≡◌, ℕ, ◌<◌, ◌≤◌, true, false, replicate, MatchOption, OnOk, OnErr, IsOkUnless, slice_index};
 ghost use Rattle.cells.specs.declared.refusal.Refusal.TheVariants.{StoreFull};
 ghost use Rattle.tags.specs.Palettes.{block_words, palette_places};
-ghost use Rattle.tags.specs.Blocks.{spelled};
+ghost use Rattle.tags.specs.Blocks.{place_of, spelled};
 ghost use Rattle.tags.specs.Spots.{FreePlace, Spot, Full, Put};
 
 use super::block::{BLOCK_WORDS, Block, PALETTE_PLACES};
 use cells::refusal::Refusal;
 use cells::row::{Items, search};
+
+// The place that an index names.
+fn place_of(index: u8) -> usize
+    ensures { result ≡ place_of index }
+{
+    usize::from(index) % PALETTE_PLACES
+}
 
 impl Block {
     // A block of zeros.
@@ -22,11 +29,12 @@ impl Block {
     }
 
     // The word that index i stands for.
+    #[tactic(auto, using(crate::proofs::Spelling::spelled_at))]
     pub(super) fn word(&self, i: usize) -> u32
         requires { i < block_words }
         ensures { result ≡ slice_index (spelled self.now) i }
     {
-        self.palette[usize::from(self.indices[i]) % PALETTE_PLACES]
+        self.palette[place_of(self.indices[i])]
     }
 
     // The lowest place that none of the first indices names, index i left out.
@@ -37,7 +45,7 @@ impl Block {
         let mut named = [false; PALETTE_PLACES];
         for (n, index) in self.indices[..used].iter().enumerate() {
             if n != i {
-                named[usize::from(*index) % PALETTE_PLACES] = true;
+                named[place_of(*index)] = true;
             }
         }
         search(&Items { items: &named }, &false)
