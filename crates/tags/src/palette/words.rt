@@ -44,13 +44,8 @@ impl TagStore for PaletteStore<'_> {
 
     #[tactic(auto, using(crate::proofs::PaletteTakes::no_room))]
     fn add(&mut self, word: u32) -> Result<(), Refusal> {
-        if self.count
-            >= self
-                .blocks
-                .len()
-                .saturating_mul(BLOCK_WORDS)
-                .min(MOST_WORDS)
-        {
+        let room = self.blocks.len().saturating_mul(BLOCK_WORDS);
+        if self.count >= room.min(MOST_WORDS) {
             return Err(Refusal::StoreFull);
         }
         let used = self.count % BLOCK_WORDS;
