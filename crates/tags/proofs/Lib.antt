@@ -1,4 +1,3 @@
-pub mod Takes
 pub mod Marks
 pub mod Distinct
 pub mod Spelling

@@ -1,7 +1,6 @@
 -- A word put into a block: what the block spells then, and why a full block has too many different words.
 use Rattle.std.proofs.Common.{◌≡◌, ℕ, ◌<◌, ◌≤◌, true, List, ◌∷◌, get_or, sym, ap, ◌∙◌, ⊎_elim, arith}
 use Rattle.std.proofs.lemmas.List.{get_or-set_same, get_or-set_other}
-use Rattle.std.proofs.lemmas.Nat.{mod_below}
 use Rattle.std.proofs.lemmas.Bool.{cases_lt, cases_eq, both_ways, or_cases, eqb-true}
 use Rattle.tags.specs.declared.palette.block.Block.{Block}
 use Rattle.tags.specs.Palettes.{block_words, palette_places, is_in, distinct}
@@ -12,9 +11,6 @@ use Rattle.tags.proofs.Marks.{taken_from, taken_by}
 use Rattle.tags.proofs.Spelling.{spelled_at, in_palette}
 
 module _ (b c : Block) (used i w : ℕ) (inside : used ≤ block_words) (here : i < block_words) (put : Put b c used i w) where
-  place_below : (index : ℕ) → place_of index < palette_places
-  place_below index = mod_below index palette_places (omega arith)
-
   palette_new : get_or c.palette put.at 0 ≡ w
   palette_new =
       let long = b.places in

@@ -1,5 +1,5 @@
 -- The words that blocks spell, by their numbers.
-use Rattle.std.proofs.Common.{◌≡◌, ℕ, zero, suc, ◌+◌, ◌-◌, ◌*◌, ◌/◌, ◌%◌, ◌<◌, ◌≤◌, min, true, false, List, [], ◌∷◌, length, get_or, drop, sym, refl, ap, ◌∙◌, subst, ⊎_elim, arith, length-append, length-drop, length-take}
+use Rattle.std.proofs.Common.{◌≡◌, ℕ, zero, suc, ◌+◌, ◌-◌, ◌*◌, ◌/◌, ◌%◌, ◌<◌, ◌≤◌, min, true, false, List, [], ◌∷◌, length, get_or, drop, sym, refl, ap, ◌∙◌, ⊎_elim, arith, length-append, length-drop, length-take}
 use lib.ListN.{length-map}
 use Rattle.std.specs.List.{flat_map}
 use Rattle.std.proofs.lemmas.List.{get_or_append_left, get_or-append_right, get_or-take, get_or-drop, get_or-map, length-take-le}
@@ -22,11 +22,21 @@ pub in_palette : (b : Block) (index : ℕ) → is_in (word_at b.palette index) b
 in_palette b index =
     let long = b.places in is_in_at b.palette (place_of index) (omega (arith, mod_below index palette_places (omega arith)))
 
+-- the word that blocks spell at number n
+abbrev pub spelt : List Block → ℕ → ℕ
+spelt blocks n = get_or (spelled (get_or blocks (n / block_words) blank)) (n % block_words) 0
+
+pub spelt_at : (blocks : List Block) (k j : ℕ) → j < block_words → spelt blocks (k * block_words + j) ≡ get_or (spelled (get_or blocks k blank)) j 0
+spelt_at blocks k j low =
+    let quotient : (k * block_words + j) / block_words ≡ k = omega arith in
+    let rest : (k * block_words + j) % block_words ≡ j = omega arith in
+    rw quotient (rw rest refl)
+
 pub all_long : (blocks : List Block) → length (flat_map spelled blocks) ≡ length blocks * block_words
 all_long [] = refl
 all_long (b ∷ bs) = let rest = all_long bs in omega (arith, length-append (spelled b) (flat_map spelled bs), spelled_long b)
 
-pub all_at : (blocks : List Block) (n : ℕ) → n < length blocks * block_words → get_or (flat_map spelled blocks) n 0 ≡ get_or (spelled (get_or blocks (n / block_words) blank)) (n % block_words) 0
+pub all_at : (blocks : List Block) (n : ℕ) → n < length blocks * block_words → get_or (flat_map spelled blocks) n 0 ≡ spelt blocks n
 all_at [] n h = absurd (omega arith)
 all_at (b ∷ bs) n h =
     let long = spelled_long b in
@@ -34,21 +44,19 @@ all_at (b ∷ bs) n h =
     (λ first.
     let quotient : n / block_words ≡ 0 = omega arith in
     let rest : n % block_words ≡ n = omega arith in
-    get_or_append_left (spelled b) (flat_map spelled bs) 0 n (omega arith)
-    ∙ sym (ap (λ k. get_or (spelled (get_or (b ∷ bs) k blank)) (n % block_words) 0) quotient ∙ ap (λ i. get_or (spelled b) i 0) rest))
+    rw quotient (rw rest (get_or_append_left (spelled b) (flat_map spelled bs) 0 n (omega arith))))
     (λ later.
-    let quotient : n / block_words ≡ suc ((n - 64) / block_words) = omega arith in
-    let rest : n % block_words ≡ (n - 64) % block_words = omega arith in
-    get_or-append_right (spelled b) (flat_map spelled bs) 64 n 0 long later ∙ all_at bs (n - 64) (omega arith)
-    ∙ sym (ap (λ k. get_or (spelled (get_or (b ∷ bs) k blank)) (n % block_words) 0) quotient
-    ∙ ap (λ i. get_or (spelled (get_or bs ((n - 64) / block_words) blank)) i 0) rest))
+    let quotient : n / block_words ≡ suc ((n - block_words) / block_words) = omega arith in
+    let rest : n % block_words ≡ (n - block_words) % block_words = omega arith in
+    let below = all_at bs (n - block_words) (omega arith) in
+    rw quotient (rw rest (get_or-append_right (spelled b) (flat_map spelled bs) block_words n 0 long later ∙ below)))
     (cases_lt n block_words)
 
 module _ (blocks : List Block) (count : ℕ) (room : count ≤ length blocks * block_words) where
   pub words_long : length (palette_words blocks count) ≡ count
   words_long = length-take-le count (flat_map spelled blocks) (omega (arith, all_long blocks))
 
-  pub words_at : (n : ℕ) → n < count → get_or (palette_words blocks count) n 0 ≡ get_or (spelled (get_or blocks (n / block_words) blank)) (n % block_words) 0
+  pub words_at : (n : ℕ) → n < count → get_or (palette_words blocks count) n 0 ≡ spelt blocks n
   words_at n h = get_or-take count (flat_map spelled blocks) n 0 h ∙ all_at blocks n (omega arith)
 
 -- a block's words, by their numbers in the whole list
@@ -72,7 +80,7 @@ pub too_many : (words : List ℕ) (k blocks : ℕ) → k < blocks → palette_pl
 too_many words k zero low many = absurd (omega arith)
 too_many words k (suc blocks) low many =
     ⊎_elim
-    (λ e. let P : ℕ → Type 0 = λ m. palette_places < distinct (words_of_block m words) in and_left _ _ (lt-leb _ _ (subst P e many)))
+    (λ e. and_left _ _ (lt-leb _ _ (rw e at many)))
     (λ ne. and_right _ _ (too_many words k blocks (omega arith) many))
     (cases_eq k blocks)
 
@@ -88,12 +96,9 @@ module _ (blocks : List Block) (count : ℕ) (room : count ≤ length blocks * b
       let found = is_in_place w (words_of_block k words) h in
       let i = found.0 in
       let low = found.1 in
-      let quotient : (k * block_words + i) / block_words ≡ k = omega arith in
-      let rest : (k * block_words + i) % block_words ≡ i = omega arith in
       let spell : w ≡ word_at b.palette (get_or b.indices i 0)
       = sym found.2 ∙ block_at words k i (omega arith) ∙ words_at blocks count room (k * block_words + i) (omega arith)
-      ∙ ap (λ m. get_or (spelled (get_or blocks m blank)) ((k * block_words + i) % block_words) 0) quotient
-      ∙ ap (λ m. get_or (spelled b) m 0) rest ∙ spelled_at b i (omega arith) in
+      ∙ spelt_at blocks k i (omega arith) ∙ spelled_at b i (omega arith) in
       ap (λ v. is_in v b.palette) spell ∙ in_palette b (get_or b.indices i 0)) in
       omega (arith, distinct_length b.palette, b.places)
 

@@ -1,6 +1,8 @@
 -- The palette store's rule: few different words in each block.
-use Rattle.std.specs.Prelude.{◌≡◌, ℕ, zero, suc, ◌+◌, ◌*◌, ◌≤◌, min, Bool, true, false, cond, ◌&&◌, ◌||◌, List, [], ◌∷◌, length, take, drop, ◌==◌, nat_le, refl}
+use Rattle.std.specs.Prelude.{◌≡◌, ℕ, zero, suc, ◌*◌, ◌≤◌, min, Bool, true, ◌&&◌, List, [], length, take, drop, nat_eq, nat_le, refl}
+use Rattle.std.specs.Set.{is_member, distinct_count}
 use Rattle.std.proofs.Common.{ap, ◌∙◌, arith, leb-true, le-leb}
+use Rattle.std.proofs.Math.Seq.{drop-nil}
 use Rattle.std.proofs.lemmas.Bool.{and_from, and_parts}
 use Rattle.tags.specs.Stores.{most_words}
 
@@ -14,13 +16,11 @@ palette_places = 16
 
 -- whether a word stands in a list
 abbrev pub is_in : ℕ → List ℕ → Bool
-is_in w [] = false
-is_in w (x ∷ xs) = w == x || is_in w xs
+is_in w ws = is_member nat_eq ws w
 
--- how many different words a list has: each counts where it stands last
+-- how many different words a list has: each counts once
 abbrev pub distinct : List ℕ → ℕ
-distinct [] = 0
-distinct (w ∷ ws) = distinct ws + cond (is_in w ws) 0 1
+distinct = distinct_count nat_eq
 
 -- the words of block k, counted from word 0, 64, 128 and so on
 abbrev pub words_of_block : ℕ → List ℕ → List ℕ
@@ -37,11 +37,8 @@ palette_admits blocks words = nat_le (length words) (min (blocks * block_words) 
 
 few_none : (blocks : ℕ) → few_each blocks [] ≡ true
 few_none zero = refl
-few_none (suc k) = ap (λ words. nat_le (distinct words) palette_places && few_each k []) (none_of (k * block_words)) ∙ few_none k
-  where
-    none_of : (n : ℕ) → take block_words (drop {A = ℕ} n []) ≡ []
-    none_of zero = refl
-    none_of (suc n) = refl
+few_none (suc k) =
+    ap (λ rest. nat_le (distinct (take block_words rest)) palette_places && few_each k []) (drop-nil (k * block_words)) ∙ few_none k
 
 -- the empty list is admitted
 pub palette_none : (blocks : ℕ) → palette_admits blocks [] ≡ true

@@ -1,5 +1,5 @@
 -- Where a block has room for a word.
-use Rattle.std.specs.Prelude.{◌≡◌, ℕ, zero, suc, ◌<◌, ◌≤◌, Bool, true, false, not, ◌&&◌, ◌||◌, List, ◌==◌, ◌≢◌, slice_index, slice_set}
+use Rattle.std.specs.Prelude.{◌≡◌, ℕ, zero, suc, ◌<◌, ◌≤◌, Bool, true, false, not, Option, MatchOption, ◌&&◌, ◌||◌, List, ◌==◌, ◌≢◌, slice_index, slice_set}
 use Rattle.tags.specs.declared.palette.block.Block.{Block}
 use Rattle.tags.specs.Palettes.{palette_places, is_in}
 use Rattle.tags.specs.Blocks.{place_of}
@@ -8,6 +8,11 @@ use Rattle.tags.specs.Blocks.{place_of}
 abbrev pub taken : List ℕ → ℕ → ℕ → ℕ → Bool
 taken indices i p zero = false
 taken indices i p (suc used) = (not (used == i) && place_of (slice_index indices used) == p) || taken indices i p used
+
+-- a place that no other index names, or absent where other indices name them all
+abbrev pub FreePlace : List ℕ → ℕ → ℕ → Option ℕ → Type 0
+FreePlace indices i used r =
+    MatchOption r ((p : ℕ) → p < palette_places → taken indices i p used ≡ true) (λ p. (p < palette_places) × (taken indices i p used ≡ false))
 
 -- place p can take word w for index i: it has the word, and no lower place has; or no place has, and no other index names p
 pub record Spot (b : Block) (used i w p : ℕ) : Type 0 where

@@ -1,5 +1,8 @@
 // What a kind of tags is, and what an order of strictness adds to it.
-ghost use Rattle.std.specs.Prelude.{◌≡◌, ℕ, ◌^◌, ◌<◌, ◌≤◌, Bool, true, ◌||◌, Some, Option};
+ghost use Rattle.std.specs.Prelude.{◌≡◌, ℕ, ◌^◌, ◌<◌, ◌≤◌, Bool, true, ◌||◌, Some, Option, nat_lt};
+ghost use Rattle.cells.specs.Refusals.{answer, refuse_if, Answer.gives};
+
+use cells::refusal::Refusal;
 
 // A kind of tags. Every value of the type is a tag of the kind, and each tag has a word of 32 bits.
 pub trait TagKind: Copy {
@@ -57,4 +60,15 @@ pub trait RankedKind: TagKind {
 
     // stricter than the stricter is stricter
     ghost through: { (a b c : Self) → stricter a b ≡ true → stricter b c ≡ true → stricter a c ≡ true };
+}
+
+// A tag's number in 16 bits, where it lies within the bounds of its kind.
+pub(crate) fn within(number: u32, low: u32, high: u32) -> Result<u16, Refusal>
+    requires { high < 2 ^ 16 }
+    ensures { answer result ≡ refuse_if (nat_lt number low || nat_lt high number) 11 (gives number) }
+{
+    if !(low..=high).contains(&number) {
+        return Err(Refusal::TagOutside);
+    }
+    Ok(number as u16)
 }

@@ -14,7 +14,7 @@ pub const TOP_ZONE: u32 = 255;
 pub const LOADS_PER_ZONE: u32 = 8192;
 
 // A load in steps of 10 kg, in a zone.
-#[derive(Clone, Copy, PartialEq, Eq, Debug)]
+#[derive(Clone, Copy, PartialEq, Eq, PartialOrd, Ord, Debug)]
 pub struct Load {
     load: u16,
     zone: u8,

@@ -8,7 +8,7 @@ pub mod kind;
 pub const TOP_SPEED: u32 = 1999;
 
 // A speed limit in mm/s. 0 is keep out.
-#[derive(Clone, Copy, PartialEq, Eq, Debug)]
+#[derive(Clone, Copy, PartialEq, Eq, PartialOrd, Ord, Debug)]
 pub struct Speed {
     limit: u16,
     ghost low: { limit ≤ top_speed },

@@ -17,47 +17,6 @@ impl<'a> FlatStore<'a> {
     {
         FlatStore { numbers, count: 0 }
     }
-
-    // Word n, or absent past the end.
-    fn word_at(&self, n: usize) -> Option<u32>
-        ensures { result ≡ slice_get (flat_words self.now.numbers.now self.now.count) n }
-    {
-        if n < self.count {
-            Some(self.numbers[n])
-        } else {
-            None
-        }
-    }
-
-    // One more word at the end, if there is room.
-    fn push(&mut self, word: u32) -> Result<(), Refusal>
-        ensures answer { answer result ≡ refuse_if (not (can_add (flat_admits (length self.old.numbers.now)) (flat_words self.old.numbers.now self.old.count) word)) 7 (gives tt) }
-        ensures words { flat_words self.new.numbers.now self.new.count ≡ (if can_add (flat_admits (length self.old.numbers.now)) (flat_words self.old.numbers.now self.old.count) word then flat_words self.old.numbers.now self.old.count ++ word ∷ [] else flat_words self.old.numbers.now self.old.count) }
-        ensures rule { flat_admits (length self.new.numbers.now) ≡ flat_admits (length self.old.numbers.now) }
-    {
-        if self.count >= self.numbers.len() {
-            return Err(Refusal::StoreFull);
-        }
-        if self.count >= MOST_WORDS {
-            return Err(Refusal::StoreFull);
-        }
-        self.numbers[self.count] = word;
-        self.count += 1;
-        Ok(())
-    }
-
-    // Another word in the place of word n, if it is there.
-    fn replace(&mut self, n: usize, word: u32) -> Result<(), Refusal>
-        ensures answer { answer result ≡ refuse_if (not (can_change (flat_admits (length self.old.numbers.now)) (flat_words self.old.numbers.now self.old.count) n word)) 7 (gives tt) }
-        ensures words { flat_words self.new.numbers.now self.new.count ≡ (if can_change (flat_admits (length self.old.numbers.now)) (flat_words self.old.numbers.now self.old.count) n word then slice_set (flat_words self.old.numbers.now self.old.count) n word else flat_words self.old.numbers.now self.old.count) }
-        ensures rule { flat_admits (length self.new.numbers.now) ≡ flat_admits (length self.old.numbers.now) }
-    {
-        if n >= self.count {
-            return Err(Refusal::StoreFull);
-        }
-        self.numbers[n] = word;
-        Ok(())
-    }
 }
 
 impl TagStore for FlatStore<'_> {
@@ -72,15 +31,24 @@ impl TagStore for FlatStore<'_> {
     }
 
     fn word(&self, n: usize) -> Option<u32> {
-        self.word_at(n)
+        self.numbers[..self.count].get(n).copied()
     }
 
     fn add(&mut self, word: u32) -> Result<(), Refusal> {
-        self.push(word)
+        if self.count >= self.numbers.len().min(MOST_WORDS) {
+            return Err(Refusal::StoreFull);
+        }
+        self.numbers[self.count] = word;
+        self.count += 1;
+        Ok(())
     }
 
     fn change(&mut self, n: usize, word: u32) -> Result<(), Refusal> {
-        self.replace(n, word)
+        if n >= self.count {
+            return Err(Refusal::StoreFull);
+        }
+        self.numbers[n] = word;
+        Ok(())
     }
 
     fn empty(&mut self) {

@@ -7,7 +7,7 @@ ghost use Rattle.tags.specs.Labels.{plate_of, label_of};
 ghost use Rattle.tags.specs.TagKinds.{label_back, label_only, label_bytes, label_fits};
 
 use super::{FIRST_PLATE, LAST_PLATE, Label};
-use crate::kind::TagKind;
+use crate::kind::{TagKind, within};
 use cells::refusal::Refusal;
 
 impl Label {
@@ -16,23 +16,10 @@ impl Label {
         ensures numbers { shown plate_of (answer result) ≡ refuse_if (nat_lt plate first_plate || nat_lt last_plate plate) 11 (gives plate) }
         ensures tag { answer result ≡ made (label_of plate) }
     {
-        if plate < FIRST_PLATE {
-            return Err(Refusal::TagOutside);
-        }
-        if plate > LAST_PLATE {
-            return Err(Refusal::TagOutside);
-        }
         Ok(Label {
-            plate: plate as u16,
+            plate: within(plate, FIRST_PLATE, LAST_PLATE)?,
         })
     }
-}
-
-// The tag whose word it is, or absent.
-fn label_of(word: u32) -> Option<Label>
-    ensures { result ≡ label_of word }
-{
-    Label::new(word).ok()
 }
 
 impl TagKind for Label {
@@ -61,6 +48,6 @@ impl TagKind for Label {
     }
 
     fn read(word: u32) -> Option<Label> {
-        label_of(word)
+        Label::new(word).ok()
     }
 }

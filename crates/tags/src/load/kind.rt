@@ -7,7 +7,7 @@ ghost use Rattle.tags.specs.Loads.{load_word, load_of, load_at, zoned_load, ligh
 ghost use Rattle.tags.specs.TagKinds.{load_back, load_only, load_bytes, load_fits, lighter_total, lighter_same, lighter_through};
 
 use super::{LOADS_PER_ZONE, Load, TOP_LOAD, TOP_ZONE};
-use crate::kind::{RankedKind, TagKind};
+use crate::kind::{RankedKind, TagKind, within};
 use cells::refusal::Refusal;
 
 impl Load {
@@ -16,26 +16,11 @@ impl Load {
         ensures numbers { shown zoned_load (answer result) ≡ refuse_if (nat_lt top_load load || nat_lt top_zone zone) 11 (gives (load, zone)) }
         ensures tag { answer result ≡ made (load_at load zone) }
     {
-        if load > TOP_LOAD {
-            return Err(Refusal::TagOutside);
-        }
-        if zone > TOP_ZONE {
-            return Err(Refusal::TagOutside);
-        }
         Ok(Load {
-            load: load as u16,
-            zone: zone as u8,
+            load: within(load, 0, TOP_LOAD)?,
+            zone: within(zone, 0, TOP_ZONE)? as u8,
         })
     }
-}
-
-// The tag whose word it is, or absent.
-fn load_of(word: u32) -> Option<Load>
-    ensures { result ≡ load_of word }
-{
-    let load = word % LOADS_PER_ZONE;
-    let zone = word / LOADS_PER_ZONE;
-    Load::new(load, zone).ok()
 }
 
 impl TagKind for Load {
@@ -64,7 +49,7 @@ impl TagKind for Load {
     }
 
     fn read(word: u32) -> Option<Load> {
-        load_of(word)
+        Load::new(word % LOADS_PER_ZONE, word / LOADS_PER_ZONE).ok()
     }
 }
 
@@ -78,9 +63,6 @@ impl RankedKind for Load {
     ghost through = { lighter_through };
 
     fn at_least_as_strict(&self, other: &Load) -> bool {
-        if self.load == other.load {
-            return self.zone <= other.zone;
-        }
-        self.load < other.load
+        self <= other
     }
 }

@@ -13,80 +13,12 @@ use cells::refusal::Refusal;
 
 impl<'a> PaletteStore<'a> {
     // An empty store over lent blocks, whatever they hold.
+    #[tactic(auto, using(crate::specs::Palettes::palette_none))]
     pub fn new(blocks: &'a mut [Block]) -> PaletteStore<'a>
         ensures words { palette_words result.blocks.now result.count ≡ [] }
         ensures rule { palette_admits (length result.blocks.now) ≡ palette_admits (length blocks.old) }
     {
         PaletteStore { blocks, count: 0 }
-    }
-
-    // How many words there are.
-    fn len(&self) -> usize
-        ensures { result ≡ length (palette_words self.now.blocks.now self.now.count) }
-    {
-        self.count
-    }
-
-    // Word n, or absent past the end.
-    fn word_at(&self, n: usize) -> Option<u32>
-        ensures { result ≡ slice_get (palette_words self.now.blocks.now self.now.count) n }
-    {
-        if n < self.count {
-            let block = self.blocks[n / BLOCK_WORDS];
-            Some(block.word(n % BLOCK_WORDS))
-        } else {
-            None
-        }
-    }
-
-    // One more word at the end, if its block has a place for it.
-    fn push(&mut self, word: u32) -> Result<(), Refusal>
-        ensures answer { answer result ≡ refuse_if (not (can_add (palette_admits (length self.old.blocks.now)) (palette_words self.old.blocks.now self.old.count) word)) 7 (gives tt) }
-        ensures words { palette_words self.new.blocks.now self.new.count ≡ (if can_add (palette_admits (length self.old.blocks.now)) (palette_words self.old.blocks.now self.old.count) word then palette_words self.old.blocks.now self.old.count ++ word ∷ [] else palette_words self.old.blocks.now self.old.count) }
-        ensures rule { palette_admits (length self.new.blocks.now) ≡ palette_admits (length self.old.blocks.now) }
-    {
-        if self.count >= MOST_WORDS {
-            return Err(Refusal::StoreFull);
-        }
-        let k = self.count / BLOCK_WORDS;
-        if k >= self.blocks.len() {
-            return Err(Refusal::StoreFull);
-        }
-        let used = self.count % BLOCK_WORDS;
-        let mut block = self.blocks[k];
-        if !block.put(used, used, word) {
-            return Err(Refusal::StoreFull);
-        }
-        self.blocks[k] = block;
-        self.count += 1;
-        Ok(())
-    }
-
-    // Another word in the place of word n, if it is there and its block has a place for the new one.
-    fn replace(&mut self, n: usize, word: u32) -> Result<(), Refusal>
-        ensures answer { answer result ≡ refuse_if (not (can_change (palette_admits (length self.old.blocks.now)) (palette_words self.old.blocks.now self.old.count) n word)) 7 (gives tt) }
-        ensures words { palette_words self.new.blocks.now self.new.count ≡ (if can_change (palette_admits (length self.old.blocks.now)) (palette_words self.old.blocks.now self.old.count) n word then slice_set (palette_words self.old.blocks.now self.old.count) n word else palette_words self.old.blocks.now self.old.count) }
-        ensures rule { palette_admits (length self.new.blocks.now) ≡ palette_admits (length self.old.blocks.now) }
-    {
-        if n >= self.count {
-            return Err(Refusal::StoreFull);
-        }
-        let k = n / BLOCK_WORDS;
-        let used = BLOCK_WORDS.min(self.count - k * BLOCK_WORDS);
-        let mut block = self.blocks[k];
-        if !block.put(used, n % BLOCK_WORDS, word) {
-            return Err(Refusal::StoreFull);
-        }
-        self.blocks[k] = block;
-        Ok(())
-    }
-
-    // Leaves no words.
-    fn clear(&mut self)
-        ensures words { palette_words self.new.blocks.now self.new.count ≡ [] }
-        ensures rule { palette_admits (length self.new.blocks.now) ≡ palette_admits (length self.old.blocks.now) }
-    {
-        self.count = 0;
     }
 }
 
@@ -97,23 +29,44 @@ impl TagStore for PaletteStore<'_> {
 
     ghost laws = { record { none = λ s. palette_none (length s.blocks.now); most = λ s. palette_most (length s.blocks.now); held = λ s. s.held } };
 
+    #[tactic(auto, using(crate::proofs::Spelling::words_long))]
     fn count(&self) -> usize {
-        self.len()
+        self.count // words in use
     }
 
     fn word(&self, n: usize) -> Option<u32> {
-        self.word_at(n)
+        if n >= self.count {
+            return None;
+        }
+        let blocks = &*self.blocks;
+        Some(blocks[n / BLOCK_WORDS].word(n % BLOCK_WORDS))
     }
 
+    #[tactic(auto, using(crate::proofs::PaletteTakes::no_room))]
     fn add(&mut self, word: u32) -> Result<(), Refusal> {
-        self.push(word)
+        let room = self.blocks.len().saturating_mul(BLOCK_WORDS);
+        if self.count >= room.min(MOST_WORDS) {
+            return Err(Refusal::StoreFull);
+        }
+        let used = self.count % BLOCK_WORDS;
+        let blocks = &mut *self.blocks;
+        blocks[self.count / BLOCK_WORDS].put(used, used, word)?;
+        self.count += 1;
+        Ok(())
     }
 
     fn change(&mut self, n: usize, word: u32) -> Result<(), Refusal> {
-        self.replace(n, word)
+        if n >= self.count {
+            return Err(Refusal::StoreFull);
+        }
+        let k = n / BLOCK_WORDS;
+        let used = BLOCK_WORDS.min(self.count - k * BLOCK_WORDS);
+        let blocks = &mut *self.blocks;
+        blocks[k].put(used, n % BLOCK_WORDS, word)
     }
 
+    #[tactic(auto, using(crate::specs::Palettes::palette_none))]
     fn empty(&mut self) {
-        self.clear();
+        self.count = 0;
     }
 }

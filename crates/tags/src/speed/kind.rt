@@ -7,7 +7,7 @@ ghost use Rattle.tags.specs.Speeds.{limit_of, speed_of, slower};
 ghost use Rattle.tags.specs.TagKinds.{speed_back, speed_only, speed_bytes, speed_fits, slower_total, slower_same, slower_through};
 
 use super::{Speed, TOP_SPEED};
-use crate::kind::{RankedKind, TagKind};
+use crate::kind::{RankedKind, TagKind, within};
 use cells::refusal::Refusal;
 
 impl Speed {
@@ -16,20 +16,10 @@ impl Speed {
         ensures numbers { shown limit_of (answer result) ≡ refuse_if (nat_lt top_speed limit) 11 (gives limit) }
         ensures tag { answer result ≡ made (speed_of limit) }
     {
-        if limit > TOP_SPEED {
-            return Err(Refusal::TagOutside);
-        }
         Ok(Speed {
-            limit: limit as u16,
+            limit: within(limit, 0, TOP_SPEED)?,
         })
     }
-}
-
-// The tag whose word it is, or absent.
-fn speed_of(word: u32) -> Option<Speed>
-    ensures { result ≡ speed_of word }
-{
-    Speed::new(word).ok()
 }
 
 impl TagKind for Speed {
@@ -58,7 +48,7 @@ impl TagKind for Speed {
     }
 
     fn read(word: u32) -> Option<Speed> {
-        speed_of(word)
+        Speed::new(word).ok()
     }
 }
 
@@ -72,6 +62,6 @@ impl RankedKind for Speed {
     ghost through = { slower_through };
 
     fn at_least_as_strict(&self, other: &Speed) -> bool {
-        self.limit <= other.limit
+        self <= other
     }
 }

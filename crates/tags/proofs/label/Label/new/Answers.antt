@@ -1,7 +1,8 @@
-use Rattle.std.proofs.Common.{sym, ap, rules}
+use Rattle.std.proofs.Common.{rules, ◌≡◌, sym, ap}
 use Rattle.tags.specs.Making.{made}
-use Rattle.tags.specs.TagKinds.{label_inside}
+use Rattle.tags.specs.TagKinds.{label_back}
 use Rattle.tags.proofs.label.Label.new.Goals as goal
 
-pub returns : goal.returns
-returns c = record { numbers = search rules; tag = ap made (sym (label_inside c.args.plate _ _)) }
+pub returns-clause-tag : goal.returns-clause-tag
+returns-clause-tag c =
+    let same : c.in_ok-within.field-0 ≡ c.args.plate = search rules in rw (← same) (sym (ap made (label_back _)))
