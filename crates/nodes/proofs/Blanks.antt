@@ -153,3 +153,12 @@ put_on m m' y xs c d p de le in' h e =
 -- a part of memory written over
 pub put_part : {X : Type 0} (m bs xs : List X) (a k w : ℕ) → k ≡ w → bs ≡ xs → put_mid a k m bs ≡ take a m ++ (xs ++ drop (a + w) m)
 put_part m bs xs a k w ke be = ap (put_mid a k m) be ∙ ap (λ l. take a m ++ (xs ++ l)) (drop-drop k a m ∙ ap (λ j. drop (a + j) m) ke)
+
+-- a part of memory filled
+pub filled : {X : Type 0} (m bs : List X) (z y : X) (a k from to : ℕ) → a ≡ from → k ≡ to - from → from ≤ to → to ≤ length m → z ≡ y → bs ≡ replicate (length (take k (drop a m))) z → put_mid a k m bs ≡ over m from to y
+filled m bs z y a k from to ae ke le in' zy h =
+    let l : length (take k (drop a m)) ≡ to - from = simp (length-take, length-drop) (omega arith) in
+    let e : from + (to - from) ≡ to = omega arith in
+    put_part m bs (replicate (to - from) y) a k (to - from) ke (h ∙ ap (λ j. replicate j z) l ∙ ap (replicate (to - from)) zy)
+    ∙ ap (λ j. take j m ++ (replicate (to - from) y ++ drop (j + (to - from)) m)) ae
+    ∙ ap (λ j. take from m ++ (replicate (to - from) y ++ drop j m)) e

@@ -6,6 +6,5 @@ pub mod LowFirst
 pub mod Numbers
 pub mod Written
 pub mod Memories
-pub mod Rows
-pub mod ByteRecords
-pub mod ByteCalls
+pub mod LentCalls
+pub mod ByteFields
