@@ -1,6 +1,6 @@
 -- The memory of a pool in lent places, after each call.
 use Rattle.std.proofs.Common.{◌≡◌, ℕ, zero, suc, ◌+◌, ◌-◌, ◌*◌, ◌<◌, ◌≤◌, List, [], ◌∷◌, ◌++◌, length, get_or, take, drop, sym, refl, ap, ◌∙◌, subst, mul-zero, mul-suc, add-one, arith}
-use Rattle.std.proofs.lemmas.List.{length-append, length-take, length-take-le, length-drop, nil_from_length, take_all, take_at, drop_at, take-take, take-append-le, get_or-take, get_or_past}
+use Rattle.std.proofs.lemmas.List.{length-append, length-take, length-take-le, length-drop, nil_from_length, take_all, take_at, drop_at, take-take, take-append-le, get_or-take}
 use borrow.Rule.Slice.PartMut.{put_mid}
 use Rattle.std.proofs.Math.Seq.{get_or-append_seam}
 use Rattle.std.proofs.Math.Nat.{mul-le-mul_left}
@@ -26,6 +26,10 @@ module _ {X : Type 0} (place : PlaceMeaning X) where
       let m : place.WIDTH * a ≤ place.WIDTH * b = mul-le-mul_left place.WIDTH le in
       omega (arith, place.spans a, place.spans b)
 
+  -- the product that the code computes
+  pub spanned : (w n : ℕ) → w ≡ place.WIDTH → w * n ≡ place.span n
+  spanned w n e = ap (λ v. v * n) e ∙ sym (place.spans n)
+
   -- fewer records are the first of them
   firsts : (k n : ℕ) (m : List X) → place.span (n + k) ≤ length m → take n (place.nodes_in (n + k) m) ≡ place.nodes_in n m
   firsts zero n m le =
@@ -47,7 +51,7 @@ module _ {X : Type 0} (place : PlaceMeaning X) where
       let l : place.span (n + (c - n)) ≤ length m = rw e in' in
       ap (λ j. take n (place.nodes_in j m)) (sym e) ∙ firsts (c - n) n m l
 
-  -- record n of those that are read, and past the end a blank one
+  -- record n of those that are read
   pub node_at : (n c : ℕ) (m : List X) → n < c → place.span c ≤ length m → get_or (place.nodes_in c m) n blank ≡ place.node_in (take place.WIDTH (drop (place.span n) m))
   node_at n c m lt in' =
       let l : place.span (n + 1) ≤ length m = omega (arith, span_le (n + 1) c (omega arith)) in
@@ -57,9 +61,6 @@ module _ {X : Type 0} (place : PlaceMeaning X) where
       ∙ ap (λ l. get_or l n blank) (take_nodes (n + 1) c m (omega arith) in' ∙ place.more n m l)
       ∙ ap (λ j. get_or (place.nodes_in n m ++ x ∷ []) j blank) (sym (place.long n m l'))
       ∙ get_or-append_seam (place.nodes_in n m) x [] blank
-
-  pub node_past : (n c : ℕ) (m : List X) → c ≤ n → place.span c ≤ length m → get_or (place.nodes_in c m) n blank ≡ blank
-  node_past n c m le in' = get_or_past (place.nodes_in c m) n blank (omega (arith, place.long c m in'))
 
   -- the front that a call keeps
   pub kept : (m m' : List X) (k n : ℕ) → k ≡ n → take (place.span n) m' ≡ take (place.span n) m → front k (place.shown m') ≡ front k (place.shown m)
@@ -91,7 +92,7 @@ module _ {X : Type 0} (place : PlaceMeaning X) where
   pub stays_made : (m m' : List X) (c p : ℕ) → p ≡ room (length m) → c ≤ p → m' ≡ over m (place.span c) (place.span p) place.empty → Stays m m' (take (place.span c) m) (place.nodes_in c m) c
   stays_made m m' c p pe le e =
       let in' = span_inside place c (length m) (omega arith) in
-      let h = made m m' place.empty place.empty (place.span c) (place.span p) (span_le c p le) (span_inside place p (length m) (omega arith)) refl e in
+      let h = made m m' place.empty (place.span c) (place.span p) (span_le c p le) (span_inside place p (length m) (omega arith)) e in
       stays m m' (take (place.span c) m) (place.nodes_in c m) c (omega arith) (place.own c m in')
       (subst (λ q. Leaves place.empty m m' (take (place.span c) m) (place.span c) (place.span q)) pe h)
 
@@ -100,10 +101,10 @@ module _ {X : Type 0} (place : PlaceMeaning X) where
       let in' = span_inside place c (length m) le' in
       let ln = span_le n c le in
       stays m m' (take (place.span n) m) (take n (place.nodes_in c m)) n (omega arith) (place.own n m (omega arith) ∙ sym (take_nodes n c m le in'))
-      (cut_back m m' place.empty place.empty (place.span n) (place.span c) (place.span (room (length m))) ln (span_le c (room (length m)) le') (span_inside place (room (length m)) (length m) (omega arith)) h refl e)
+      (cut_back m m' place.empty (place.span n) (place.span c) (place.span (room (length m))) ln (span_le c (room (length m)) le') (span_inside place (room (length m)) (length m) (omega arith)) h e)
 
-  pub stays_added : (m part : List X) (node : Node) (c a k : ℕ) → c < room (length m) → a ≡ place.span c → k ≡ place.WIDTH → length part ≡ place.WIDTH → place.node_in part ≡ node → InOrder place.empty (place.span c) (place.span (room (length m))) m → Stays m (put_mid a k m part) (take (place.span c) m ++ part) (place.nodes_in c m ++ node ∷ []) (c + 1)
-  stays_added m part node c a k lt ae ke lp np h =
+  pub stays_added : (m part : List X) (node : Node) (c w k : ℕ) → w ≡ place.WIDTH → k ≡ place.WIDTH → c < room (length m) → length part ≡ place.WIDTH → place.node_in part ≡ node → InOrder place.empty (place.span c) (place.span (room (length m))) m → Stays m (put_mid (w * c) k m part) (take (place.span c) m ++ part) (place.nodes_in c m ++ node ∷ []) (c + 1)
+  stays_added m part node c w k we ke lt lp np h =
       let s = span_more c in
       let d : place.span (c + 1) ≡ place.span c + length part = omega arith in
       let in' : place.span (c + 1) ≤ length m = span_inside place (c + 1) (length m) (omega arith) in
@@ -116,11 +117,11 @@ module _ {X : Type 0} (place : PlaceMeaning X) where
       sym (place.own c whole (omega arith)) ∙ ap (place.nodes_in c) t ∙ place.own c m (omega arith) in
       let last : place.node_in (take place.WIDTH (drop (place.span c) whole)) ≡ node =
       ap (λ l. place.node_in (take place.WIDTH l)) b ∙ ap place.node_in (take_all place.WIDTH part (omega arith)) ∙ np in
-      let e : put_mid a k m part ≡ put m (place.span c) part =
-      ap (λ j. put_mid j k m part) ae ∙ put_part m part part (place.span c) k (length part) (omega arith) refl in
-      stays m (put_mid a k m part) whole (place.nodes_in c m ++ node ∷ []) (c + 1) (omega arith)
+      let e : put_mid (w * c) k m part ≡ put m (place.span c) part =
+      ap (λ j. put_mid j k m part) (spanned w c we) ∙ put_part m part part (place.span c) k (length part) (omega arith) refl in
+      stays m (put_mid (w * c) k m part) whole (place.nodes_in c m ++ node ∷ []) (c + 1) (omega arith)
       (place.more c whole (omega arith) ∙ ap (λ l. l ++ place.node_in (take place.WIDTH (drop (place.span c) whole)) ∷ []) list ∙ ap (λ x. place.nodes_in c m ++ x ∷ []) last)
-      (put_on m (put_mid a k m part) place.empty part (place.span c) (place.span (c + 1)) (place.span (room (length m))) d (span_le (c + 1) (room (length m)) (omega arith)) (span_inside place (room (length m)) (length m) (omega arith)) h e)
+      (put_on m (put_mid (w * c) k m part) place.empty part (place.span c) (place.span (c + 1)) (place.span (room (length m))) d (span_le (c + 1) (room (length m)) (omega arith)) (span_inside place (room (length m)) (length m) (omega arith)) h e)
 
   -- the places of the records that were there stay
   pub front_stays : (m m' part : List X) (list : List Node) (c : ℕ) → place.span c ≤ length m → Stays m m' (take (place.span c) m ++ part) list (c + 1) → take (place.span c) m' ≡ take (place.span c) m
@@ -130,19 +131,18 @@ module _ {X : Type 0} (place : PlaceMeaning X) where
       ∙ take_at (take (place.span c) m) part (place.span c) (length-take-le (place.span c) m le)
 
   -- the places of record n
-  pub part_at : (n c a k : ℕ) (m : List X) → n < c → c ≤ room (length m) → a ≡ place.span n → k ≡ place.WIDTH → (length (take k (drop a m)) ≡ place.WIDTH) × (place.node_in (take k (drop a m)) ≡ get_or (place.nodes_in c m) n blank)
-  part_at n c a k m lt le ae ke =
-      let in' = span_inside place c (length m) le in
-      let more = span_more n in
-      let up = span_le (n + 1) c (omega arith) in (
-        simp (length-take, length-drop) (omega arith),
-        ap (λ j. place.node_in (take k (drop j m))) ae ∙ ap (λ j. place.node_in (take j (drop (place.span n) m))) ke ∙ sym (node_at n c m lt in'),
-      )
+  pub part_inside : (n c k w : ℕ) → w ≡ place.WIDTH → n < c → c ≤ room k → w * n + place.WIDTH ≤ k
+  part_inside n c k w we lt le =
+      omega (arith, spanned w n we, span_inside place c k le, span_more n, span_le (n + 1) c (omega arith))
 
-  -- where a record takes its places
-  pub part_inside : (n a c k : ℕ) → n < c → c ≤ room k → a ≡ place.span n → a + place.WIDTH ≤ k
-  part_inside n a c k lt le ae =
-      omega (arith, span_inside place c k le, span_more n, span_le (n + 1) c (omega arith))
+  pub part_at : (n c w k : ℕ) (m : List X) → w ≡ place.WIDTH → k ≡ place.WIDTH → n < c → c ≤ room (length m) → (length (take k (drop (w * n) m)) ≡ place.WIDTH) × (place.node_in (take k (drop (w * n) m)) ≡ get_or (place.nodes_in c m) n blank)
+  part_at n c w k m we ke lt le =
+      let inside = part_inside n c (length m) w we lt le in (
+        simp (length-take, length-drop) (omega arith),
+        ap (λ j. place.node_in (take k (drop j m))) (spanned w n we)
+            ∙ ap (λ j. place.node_in (take j (drop (place.span n) m))) ke
+            ∙ sym (node_at n c m lt (span_inside place c (length m) le)),
+      )
 
   pub nodes_none : (n : ℕ) (m : List X) → n ≡ 0 → place.nodes_in n m ≡ []
   nodes_none n m e =

@@ -1,6 +1,5 @@
 pub mod Blanks
 pub mod Adding
-pub mod Children
 pub mod Finds
 pub mod LowFirst
 pub mod Numbers

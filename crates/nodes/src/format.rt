@@ -58,6 +58,7 @@ impl Field for u16 {
 
     ghost number = { λ link. link };
 
+    #[tactic(auto, using(crate::proofs::LowFirst::value_two))]
     fn read(bytes: &[u8]) -> u16 {
         u16::from_le_bytes([bytes[0], bytes[1]])
     }
@@ -74,6 +75,7 @@ impl Field for u32 {
 
     ghost number = { λ offset. offset };
 
+    #[tactic(auto, using(crate::proofs::LowFirst::value_four))]
     fn read(bytes: &[u8]) -> u32 {
         u32::from_le_bytes([bytes[0], bytes[1], bytes[2], bytes[3]])
     }
@@ -84,6 +86,7 @@ impl Field for u32 {
 }
 
 // The eight fields that the bytes write.
+#[tactic(auto, unfolding(crate::specs::Format::values_of))]
 fn fields<F: Field>(bytes: &[u8]) -> [F; CHILDREN]
     requires { length bytes.now ≡ F.WIDTH * children }
     ensures { map F.number result ≡ values_of F.WIDTH children bytes.now }

@@ -96,24 +96,15 @@ impl<T: Place> NodePool for Pool<'_, T> {
     }
 
     fn read(&self, n: usize) -> Node {
-        match self.places_of(n) {
-            Some(places) => T::node(places),
-            None => Node::blank(),
-        }
+        self.places_of(n).map_or_else(Node::blank, T::node)
     }
 
     fn level_at(&self, n: usize) -> u8 {
-        match self.places_of(n) {
-            Some(places) => T::level(places),
-            None => 0,
-        }
+        self.places_of(n).map_or(0, T::level)
     }
 
     fn mask_at(&self, n: usize) -> u8 {
-        match self.places_of(n) {
-            Some(places) => T::mask(places),
-            None => 0,
-        }
+        self.places_of(n).map_or(0, T::mask)
     }
 
     fn link_at(&self, n: usize, i: usize) -> u16 {
