@@ -1,26 +1,12 @@
 -- Memory with blanks: how writing changes it.
-use Rattle.std.proofs.Common.{◌≡◌, ℕ, ◌+◌, ◌-◌, ◌<◌, ◌≤◌, List, [], ◌∷◌, ◌++◌, length, take, drop, set, replicate, sym, ap, ◌∙◌, subst, add-one, arith}
-use native.Mathlib.Nat.{sub_self}
+use Rattle.std.proofs.Common.{◌≡◌, ℕ, ◌+◌, ◌-◌, ◌≤◌, List, ◌++◌, length, take, drop, replicate, sym, ap, ◌∙◌, subst, arith}
 use borrow.Rule.Slice.PartMut.{put_mid}
-use Rattle.std.proofs.lemmas.List.{append_assoc, length-take, length-take-le, length-drop, length-append, length-replicate, take-append-drop, take_at, drop_at, drop-append-le, drop-drop, drop-replicate, set-append_right, set_split, drop_more, replicate_more, replicate-append-replicate}
+use Rattle.std.proofs.lemmas.List.{append_assoc, length-take, length-take-le, length-drop, length-append, length-replicate, take-append-drop, take_at, drop_at, drop-append-le, drop-drop, drop-replicate, replicate-append-replicate}
 use Rattle.nodes.specs.Memory.{laid}
 
 -- a part of memory from a to k is overwritten with y
 abbrev pub over : {X : Type 0} → List X → ℕ → ℕ → X → List X
 over m a k y = take a m ++ (replicate (k - a) y ++ drop k m)
-
-pub over_none : {X : Type 0} (m : List X) (a : ℕ) (y : X) → m ≡ over m a a y
-over_none m a y = rw (sub_self a) (sym (take-append-drop a m))
-
-pub over_more : {X : Type 0} (m : List X) (a k : ℕ) (y : X) → a ≤ k → k < length m → set (over m a k y) k y ≡ over m a (k + 1) y
-over_more m a k y le lt =
-    let la : length (take a m) ≡ a = length-take-le a m (omega arith) in
-    let lr : length (replicate (k - a) y) ≡ k - a = length-replicate (k - a) y in
-    let e1 = set-append_right (take a m) (replicate (k - a) y ++ drop k m) a k y la le in
-    let e2 = set-append_right (replicate (k - a) y) (drop k m) (k - a) (k - a) y lr (omega arith) in
-    let e3 = drop_more m k y lt in
-    let e4 : k + 1 - a ≡ k - a + 1 = omega arith in
-    e1 ∙ ap (λ z. take a m ++ z) (e2 ∙ rw (sub_self (k - a), e3, e4, ← replicate_more (k - a) y, append_assoc))
 
 -- Memory in order: a list of c places, blanks up to the capacity p, and what lies behind.
 abbrev pub InOrder : {X : Type 0} → X → ℕ → ℕ → List X → Type 0
@@ -120,10 +106,6 @@ order_put m c p y xs le in' h =
     ∙ ap (λ z. z ++ drop p m) (drop-replicate (length xs) (p - c) y ∙ ap (λ q. replicate q y) e)
     ∙ ap (λ z. replicate (p - (c + length xs)) y ++ z) (sym (drop_put m c xs p le (omega arith))))
 
--- one place written
-pub set_put : {X : Type 0} (m : List X) (a : ℕ) (x : X) → a < length m → set m a x ≡ put m a (x ∷ [])
-set_put m a x lt = set_split m a x lt ∙ ap (λ q. take a m ++ x ∷ drop q m) (sym (add-one a))
-
 -- What a change of memory leaves: its length, the order, the list and what lies behind.
 pub record Leaves {X : Type 0} (y : X) (m m' : List X) (list : List X) (c p : ℕ) : Type 0 where
   pub long : length m' ≡ length m
@@ -131,25 +113,31 @@ pub record Leaves {X : Type 0} (y : X) (m m' : List X) (list : List X) (c p : �
   pub list_is : take c m' ≡ list
   pub behind : drop p m' ≡ drop p m
 
-pub made : {X : Type 0} (m m' : List X) (y z : X) (c p : ℕ) → c ≤ p → p ≤ length m → z ≡ y → m' ≡ over m c p z → Leaves y m m' (take c m) c p
-made m m' y z c p le in' zy e =
-    let f : over m c p y ≡ m' = ap (over m c p) (sym zy) ∙ sym e in
-    subst (λ w. Leaves y m w (take c m) c p) f
+pub made : {X : Type 0} (m m' : List X) (y : X) (c p : ℕ) → c ≤ p → p ≤ length m → m' ≡ over m c p y → Leaves y m m' (take c m) c p
+made m m' y c p le in' e =
+    subst (λ w. Leaves y m w (take c m) c p) (sym e)
     (record { long = length_over m c p y le in'; order = order_made m c p y le in'; list_is = take_over m c p y (omega arith); behind = drop_over m c p p y le (omega arith) in' })
 
-pub cut_back : {X : Type 0} (m m' : List X) (y z : X) (n c p : ℕ) → n ≤ c → c ≤ p → p ≤ length m → InOrder y c p m → z ≡ y → m' ≡ over m n c z → Leaves y m m' (take n m) n p
-cut_back m m' y z n c p le le' in' h zy e =
-    let f : over m n c y ≡ m' = ap (over m n c) (sym zy) ∙ sym e in
-    subst (λ w. Leaves y m w (take n m) n p) f
+pub cut_back : {X : Type 0} (m m' : List X) (y : X) (n c p : ℕ) → n ≤ c → c ≤ p → p ≤ length m → InOrder y c p m → m' ≡ over m n c y → Leaves y m m' (take n m) n p
+cut_back m m' y n c p le le' in' h e =
+    subst (λ w. Leaves y m w (take n m) n p) (sym e)
     (record { long = length_over m n c y le (omega arith); order = order_cut m n c p y le le' in' h; list_is = take_over m n c y (omega arith); behind = drop_over m n c p y le le' (omega arith) })
 
 pub put_on : {X : Type 0} (m m' : List X) (y : X) (xs : List X) (c d p : ℕ) → d ≡ c + length xs → d ≤ p → p ≤ length m → InOrder y c p m → m' ≡ put m c xs → Leaves y m m' (take c m ++ xs) d p
 put_on m m' y xs c d p de le in' h e =
-    let f : put m c xs ≡ m' = sym e in
     subst (λ k. Leaves y m m' (take c m ++ xs) k p) (sym de)
-    (subst (λ w. Leaves y m w (take c m ++ xs) (c + length xs) p) f
+    (subst (λ w. Leaves y m w (take c m ++ xs) (c + length xs) p) (sym e)
     (record { long = length_put m c xs (omega arith); order = order_put m c p y xs (omega arith) in' h; list_is = take_put m c xs (omega arith); behind = drop_put m c xs p (omega arith) (omega arith) }))
 
 -- a part of memory written over
 pub put_part : {X : Type 0} (m bs xs : List X) (a k w : ℕ) → k ≡ w → bs ≡ xs → put_mid a k m bs ≡ take a m ++ (xs ++ drop (a + w) m)
 put_part m bs xs a k w ke be = ap (put_mid a k m) be ∙ ap (λ l. take a m ++ (xs ++ l)) (drop-drop k a m ∙ ap (λ j. drop (a + j) m) ke)
+
+-- a part of memory filled
+pub filled : {X : Type 0} (m bs : List X) (z y : X) (a k from to : ℕ) → a ≡ from → k ≡ to - from → from ≤ to → to ≤ length m → z ≡ y → bs ≡ replicate (length (take k (drop a m))) z → put_mid a k m bs ≡ over m from to y
+filled m bs z y a k from to ae ke le in' zy h =
+    let l : length (take k (drop a m)) ≡ to - from = simp (length-take, length-drop) (omega arith) in
+    let e : from + (to - from) ≡ to = omega arith in
+    put_part m bs (replicate (to - from) y) a k (to - from) ke (h ∙ ap (λ j. replicate j z) l ∙ ap (replicate (to - from)) zy)
+    ∙ ap (λ j. take j m ++ (replicate (to - from) y ++ drop (j + (to - from)) m)) ae
+    ∙ ap (λ j. take from m ++ (replicate (to - from) y ++ drop j m)) e

@@ -1,9 +1,8 @@
 -- The search in the tail of a list, told of the whole list.
-use Rattle.std.proofs.Common.{◌≡◌, ℕ, zero, suc, ◌+◌, ◌-◌, ◌<◌, ◌≤◌, List, [], ◌∷◌, length, drop, Some, None, sym, refl, ap, ◌∙◌, zero-add, arith}
+use Rattle.std.proofs.Common.{◌≡◌, ℕ, zero, suc, ◌+◌, ◌-◌, ◌≤◌, List, [], ◌∷◌, drop, Some, None, Option, subst, sym, refl, ap, ◌∙◌, zero-add, arith}
 use Rattle.std.specs.List.{slice_get}
+use Rattle.std.specs.Option.{option_map}
 use Rattle.cells.specs.Rows.{Lowest}
-use Rattle.cells.proofs.Places.{nth_inside}
-use Rattle.std.proofs.lemmas.List.{length-drop}
 use Rattle.nodes.specs.Finding.{LowestFrom}
 
 pub nth_drop : {X : Type 0} (k : ℕ) (xs : List X) (i : ℕ) → slice_get (drop k xs) i ≡ slice_get xs (k + i)
@@ -22,6 +21,7 @@ pub lowest_some : {X : Type 0} (from : ℕ) (xs : List X) (x : X) (n : ℕ) → 
 lowest_some from xs x n h =
     (omega arith, sym (nth_drop from xs n) ∙ h.0, λ k le lt e. h.1 (k - from) (omega arith) (tail_entry from xs x k le e))
 
--- what is found stands in the list
-pub found_inside : {X : Type 0} (from : ℕ) (xs : List X) (x : X) (n : ℕ) → Lowest (drop from xs) x (Some n) → from + n < length xs
-found_inside from xs x n h = omega (arith, nth_inside (drop from xs) n x h.0, length-drop from xs)
+-- what the search in the tail answers, with the numbers of the whole list
+pub lowest_from : {X : Type 0} (from : ℕ) (xs : List X) (x : X) (o r : Option ℕ) → Lowest (drop from xs) x o → r ≡ option_map (λ n. from + n) o → LowestFrom from xs x r
+lowest_from from xs x None r h e = subst (LowestFrom from xs x) (sym e) (lowest_none from xs x h)
+lowest_from from xs x (Some n) r h e = subst (LowestFrom from xs x) (sym e) (lowest_some from xs x n h)

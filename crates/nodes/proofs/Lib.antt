@@ -1,11 +1,9 @@
 pub mod Blanks
 pub mod Adding
-pub mod Children
 pub mod Finds
 pub mod LowFirst
 pub mod Numbers
 pub mod Written
 pub mod Memories
-pub mod Rows
-pub mod ByteRecords
-pub mod ByteCalls
+pub mod LentCalls
+pub mod ByteFields

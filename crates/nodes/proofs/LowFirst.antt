@@ -1,8 +1,9 @@
 -- Numbers of several bytes, low byte first: the laws, once for every width.
-use Rattle.std.proofs.Common.{◌≡◌, ℕ, zero, suc, ◌+◌, ◌-◌, ◌*◌, ◌/◌, ◌%◌, ◌^◌, ◌<◌, ◌≤◌, List, [], ◌∷◌, ◌++◌, length, get_or, take, drop, set, sym, refl, ap, ◌∙◌, mul_comm, arith}
+use Rattle.std.proofs.Common.{◌≡◌, ℕ, zero, suc, ◌+◌, ◌-◌, ◌*◌, ◌/◌, ◌%◌, ◌^◌, ◌<◌, ◌≤◌, List, [], ◌∷◌, ◌++◌, length, get_or, take, set, sym, refl, ap, ◌∙◌, mul_comm, arith}
 use native.Mathlib.Nat.{pow-succ', pow-le-pow_right}
-use Rattle.std.proofs.lemmas.List.{append_assoc, append-nil, take_all, drop_all, drop_more, take_more_set}
+use Rattle.std.proofs.lemmas.List.{append_assoc, append-nil, take_all, take_more_set}
 use Rattle.std.proofs.lemmas.Nat.{div_below, div-add-mod'}
+use Rattle.std.specs.Int.{w16, w32, from_le_bytes}
 use Rattle.nodes.specs.Format.{Bytes, bytes_of, value_of}
 
 pub length_bytes_of : (w n : ℕ) → length (bytes_of w n) ≡ w
@@ -40,17 +41,22 @@ value_under bs w le h =
     let p : 256 ^ length bs ≤ 256 ^ w = pow-le-pow_right z le in
     omega (arith, value_below bs h)
 
--- reading from the last byte down: none is read, and one more
-pub value_none : (bs : List ℕ) → (0 ≡ value_of (drop (length bs) bs)) × Bytes (drop (length bs) bs)
+-- what two bytes write, and four
+pub value_two : (bs : List ℕ) → length bs ≡ 2 → from_le_bytes w16 (get_or bs 0 0 ∷ get_or bs 1 0 ∷ []) ≡ value_of bs
 unfolding value_of
-value_none bs = rw (drop_all (length bs) bs (omega arith)) (refl, tt)
+value_two [] l = absurd (omega arith)
+value_two (a ∷ []) l = absurd (omega arith)
+value_two (a ∷ b ∷ []) l = omega arith
+value_two (a ∷ b ∷ c ∷ bs) l = absurd (omega arith)
 
-pub value_more : (bs : List ℕ) (k n : ℕ) → 0 < k → k ≤ length bs → get_or bs (k - 1) 0 < 256 → (n ≡ value_of (drop k bs)) × Bytes (drop k bs) → (n * 256 + get_or bs (k - 1) 0 ≡ value_of (drop (k - 1) bs)) × Bytes (drop (k - 1) bs)
+pub value_four : (bs : List ℕ) → length bs ≡ 4 → from_le_bytes w32 (get_or bs 0 0 ∷ get_or bs 1 0 ∷ get_or bs 2 0 ∷ get_or bs 3 0 ∷ []) ≡ value_of bs
 unfolding value_of
-value_more bs k n pos le b h =
-    let e : k - 1 + 1 ≡ k = omega arith in
-    let d : drop (k - 1) bs ≡ get_or bs (k - 1) 0 ∷ drop k bs = drop_more bs (k - 1) 0 (omega arith) ∙ ap (λ j. get_or bs (k - 1) 0 ∷ drop j bs) e in
-    rw d (omega (arith, h.0), (b, h.1))
+value_four [] l = absurd (omega arith)
+value_four (a ∷ []) l = absurd (omega arith)
+value_four (a ∷ b ∷ []) l = absurd (omega arith)
+value_four (a ∷ b ∷ c ∷ []) l = absurd (omega arith)
+value_four (a ∷ b ∷ c ∷ d ∷ []) l = omega arith
+value_four (a ∷ b ∷ c ∷ d ∷ e ∷ bs) l = absurd (omega arith)
 
 -- writing from the first byte up: none is written, one more, and all
 pub bytes_more : (bs : List ℕ) (w k rest : ℕ) (all : List ℕ) → k < w → w ≡ length bs → take k bs ++ bytes_of (w - k) rest ≡ all → take (k + 1) (set bs k (rest % 256)) ++ bytes_of (w - (k + 1)) (rest / 256) ≡ all

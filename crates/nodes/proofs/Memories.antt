@@ -5,13 +5,6 @@ use Rattle.nodes.specs.Format.{node_bytes}
 use Rattle.nodes.specs.Memory.{laid}
 use Rattle.nodes.specs.Pools.{Holds, Memory, records, bytes, front}
 
--- records, or bytes, that stay in front
-pub rows_kept : (m m' : List Node) (k n : ℕ) → k ≡ n → take n m' ≡ take n m → front k (records m') ≡ front k (records m)
-rows_kept m m' k n e h = ap (λ j. records (take j m')) e ∙ ap records h ∙ ap (λ j. records (take j m)) (sym e)
-
-pub bytes_kept : (m m' : List ℕ) (k n : ℕ) → k ≡ n → take (node_bytes * n) m' ≡ take (node_bytes * n) m → front k (bytes m') ≡ front k (bytes m)
-bytes_kept m m' k n e h = ap (λ j. bytes (take (node_bytes * j) m')) e ∙ ap bytes h ∙ ap (λ j. bytes (take (node_bytes * j) m)) (sym e)
-
 -- Two memories with one list, one capacity and the same in front and behind are the same: adding and cutting back changes nothing.
 pub same_memory : (m m' b : Memory) (nodes : List Node) (p : ℕ) → Holds m nodes p b → Holds m' nodes p b → front (length nodes) m ≡ front (length nodes) m' → m ≡ m'
 same_memory (records m) (records m') (records b) nodes p h h' e = ap records (h ∙ sym h')

@@ -1,11 +1,8 @@
 -- Numbers of one width that stand one behind another.
-use Rattle.std.proofs.Common.{◌≡◌, ℕ, zero, suc, ◌+◌, ◌*◌, ◌^◌, ◌<◌, ◌≤◌, List, [], ◌∷◌, ◌++◌, length, get_or, take, drop, set, sym, refl, ap, ◌∙◌, mul-zero, mul-suc, add-one, arith, w8, Fits}
-use borrow.Rule.Slice.PartMut.{put_mid}
+use Rattle.std.proofs.Common.{◌≡◌, ℕ, zero, suc, ◌+◌, ◌*◌, ◌^◌, ◌<◌, ◌≤◌, List, [], ◌∷◌, ◌++◌, length, get_or, take, drop, set, map, sym, refl, ap, ◌∙◌, mul-zero, mul-suc, add-one, arith, w8, Fits}
 use Rattle.std.specs.List.{flat_map, AllByRecursion}
-use Rattle.std.proofs.lemmas.List.{length-take, length-take-le, length-drop, length-append, take-append-drop, take_at, drop_at, nil_from_length, take_all, take_more, take_more_set, drop-drop, flat_map_more}
-use Rattle.std.proofs.lemmas.Slice.{take-put_mid}
+use Rattle.std.proofs.lemmas.List.{map-append, length-take, length-take-le, length-drop, length-append, take-append-drop, take_at, drop_at, nil_from_length, take_more_set, drop-drop}
 use Rattle.std.proofs.ByRecursion.{All-from_get_or, All-take, All-drop}
-use Rattle.nodes.specs.Records.{children}
 use Rattle.nodes.specs.Format.{Bytes, bytes_of, value_of, values_of}
 use Rattle.nodes.proofs.LowFirst.{length_bytes_of, value_bytes, bytes_value, value_under}
 
@@ -24,34 +21,14 @@ values_more w (suc i) bs =
     e : (w i : ℕ) → w + w * i ≡ w * suc i
     e w i = rw (mul-suc w i) (omega arith)
 
-pub reads_none : (w : ℕ) (bs : List ℕ) → [] ≡ values_of w 0 bs
-unfolding values_of
-reads_none w bs = refl
-
-pub reads_more : (w i n k : ℕ) (bs xs : List ℕ) → i < length xs → k ≡ w → n ≡ value_of (take k (drop (w * i) bs)) → take i xs ≡ values_of w i bs → take (i + 1) (set xs i n) ≡ values_of w (i + 1) bs
-reads_more w i n k bs xs lt ke ne h =
-    take_more_set xs i n lt
-    ∙ ap (λ l. l ++ n ∷ []) h
-    ∙ ap (λ v. values_of w i bs ++ v ∷ []) (ne ∙ ap (λ j. value_of (take j (drop (w * i) bs))) ke)
+pub reads_more : {X : Type 0} (f : X → ℕ) (w i a k : ℕ) (bs : List ℕ) (xs : List X) (x : X) → i < length xs → a ≡ w * i → k ≡ w → f x ≡ value_of (take k (drop a bs)) → map f (take i xs) ≡ values_of w i bs → map f (take (i + 1) (set xs i x)) ≡ values_of w (i + 1) bs
+reads_more f w i a k bs xs x lt ae ke ne h =
+    ap (map f) (take_more_set xs i x lt)
+    ∙ map-append f (take i xs) (x ∷ [])
+    ∙ ap (λ l. l ++ f x ∷ []) h
+    ∙ ap (λ v. values_of w i bs ++ v ∷ []) (ne ∙ ap (λ j. value_of (take k (drop j bs))) ae ∙ ap (λ j. value_of (take j (drop (w * i) bs))) ke)
     ∙ sym (values_more w i bs)
     ∙ ap (λ j. values_of w j bs) (sym (add-one i))
-
-pub reads_all : (w i : ℕ) (bs xs : List ℕ) → i ≡ children → length xs ≡ children → take i xs ≡ values_of w i bs → xs ≡ values_of w children bs
-reads_all w i bs xs ie le h = sym (take_all i xs (omega arith)) ∙ h ∙ ap (λ j. values_of w j bs) ie
-
--- one more number is written
-pub writes_more : (w i n a k : ℕ) (bs part xs : List ℕ) → i < length xs → n ≡ get_or xs i 0 → a ≡ w * i → k ≡ w → a + w ≤ length bs → part ≡ bytes_of w n → take a bs ≡ flat_map (bytes_of w) (take i xs) → take (w * (i + 1)) (put_mid a k bs part) ≡ flat_map (bytes_of w) (take (i + 1) xs)
-writes_more w i n a k bs part xs lt ne ae ke in' pe h =
-    let l : length part ≡ w = ap length pe ∙ length_bytes_of w n in
-    let m : w * (i + 1) ≡ a + length part = ap (λ j. w * j) (add-one i) ∙ mul-suc w i ∙ omega arith in
-    take-put_mid a k bs part (w * (i + 1)) m (omega arith)
-    ∙ ap (λ z. z ++ part) h
-    ∙ ap (λ z. flat_map (bytes_of w) (take i xs) ++ z) (pe ∙ ap (bytes_of w) ne)
-    ∙ flat_map_more (bytes_of w) [] (take i xs) (get_or xs i 0)
-    ∙ ap (flat_map (bytes_of w)) (sym (take_more xs i 0 lt))
-
-pub writes_all : (w i : ℕ) (bs xs : List ℕ) → length xs ≤ i → length bs ≤ w * i → take (w * i) bs ≡ flat_map (bytes_of w) (take i xs) → bs ≡ flat_map (bytes_of w) xs
-writes_all w i bs xs le le' h = sym (take_all (w * i) bs le') ∙ h ∙ ap (flat_map (bytes_of w)) (take_all i xs le)
 
 -- a part of bytes is as long as it is cut
 pub part_long : (bs : List ℕ) (a k w : ℕ) → k ≡ w → a + w ≤ length bs → length (take k (drop a bs)) ≡ w

@@ -1,11 +1,11 @@
 -- Records and their bytes: what is written is read again, and what is read is written again.
-use Rattle.std.proofs.Common.{◌≡◌, ℕ, ◌*◌, ◌<◌, List, [], ◌∷◌, ◌++◌, length, get_or, take, drop, set, replicate, refl, ap, ◌∙◌, subst, arith}
+use Rattle.std.proofs.Common.{◌≡◌, ℕ, ◌*◌, ◌<◌, List, [], ◌∷◌, ◌++◌, length, get_or, take, drop, set, ap, ◌∙◌, subst, arith}
 use borrow.Rule.Slice.PartMut.{put_mid}
 use Rattle.std.specs.List.{between, flat_map}
-use Rattle.std.proofs.lemmas.List.{append-nil, length-take, length-drop, length-append, take-append-drop, take_all, take_at, drop_at, drop-drop, drop_all}
+use Rattle.std.proofs.lemmas.List.{append-nil, length-take, length-drop, take-append-drop, take_all, take_at, drop_at, drop-drop, drop_all}
 use Rattle.std.proofs.ByRecursion.{All-take, All-drop}
 use Rattle.nodes.specs.declared.node.Node.{Node}
-use Rattle.nodes.specs.Records.{blank, children}
+use Rattle.nodes.specs.Records.{children}
 use Rattle.nodes.specs.Format.{Bytes, Fitting, bytes_of, node_bytes, read_node, values_of, written}
 use Rattle.nodes.proofs.Numbers.{length_joined, length_values, values_fit, values_written, written_values}
 
@@ -33,20 +33,6 @@ node_put bs ls os node l l8 o8 e f =
 pub heads_fit : (node : Node) (bs : List ℕ) → bs ≡ written node → Bytes bs → (node.level < 256) × (node.mask < 256)
 unfolding written
 heads_fit node bs e h = let b = subst Bytes e h in (b.0, b.1.0)
-
-pub length_written : (node : Node) → Fitting node → length (written node) ≡ node_bytes
-unfolding written
-length_written node fit =
-    omega (arith, length-append (flat_map (bytes_of 2) node.links) (flat_map (bytes_of 4) node.offsets), length_joined 2 node.links, length_joined 4 node.offsets, fit.eight_links, fit.eight_offsets)
-
--- a blank record is 50 zeros
-pub written_blank : written blank ≡ replicate node_bytes 0
-unfolding written bytes_of
-written_blank = refl
-
--- and so is one that is zero in each part
-pub written_zeros : (level mask link offset : ℕ) → level ≡ 0 → mask ≡ 0 → link ≡ 0 → offset ≡ 0 → written (record { level = level; mask = mask; links = replicate children link; offsets = replicate children offset }) ≡ replicate node_bytes 0
-written_zeros level mask link offset e f g h = rw (e, f, g, h) written_blank
 
 -- writing and reading a record gives it back
 pub read_written : (node : Node) → Fitting node → read_node (written node) ≡ node

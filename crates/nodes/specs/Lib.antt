@@ -3,5 +3,5 @@ pub mod Format
 pub mod Memory
 pub mod Pools
 pub mod Finding
-pub mod RowPools
-pub mod BytePools
+pub mod LentPools
+pub mod Places

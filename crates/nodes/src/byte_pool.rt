@@ -1,18 +1,86 @@
 // The byte pool: a pool over lent bytes, 50 a record.
-ghost use Rattle.std.specs.Prelude.{◌≡◌, ◌*◌, ◌/◌, ◌≤◌, length, take, drop};
-ghost use Rattle.nodes.specs.Format.{node_bytes};
-ghost use Rattle.nodes.specs.Pools.{capped};
-ghost use Rattle.nodes.specs.Memory.{laid};
+ghost use Rattle.std.specs.Prelude.{◌*◌, ◌/◌};
+ghost use Rattle.std.proofs.Common.{refl, lit<};
+ghost use Rattle.nodes.specs.Format.{node_bytes, read_node, read_nodes, length_nodes};
+ghost use Rattle.nodes.specs.Places.{nodes_more, nodes_own, bytes_hold};
+ghost use Rattle.nodes.specs.Pools.{bytes};
 
-use crate::memory::Lent;
+use crate::format::{Field, LINK_BYTES, LINKS_AT, OFFSET_BYTES, OFFSETS_AT, get_node, put_node};
+use crate::lent_pool::Pool;
+use crate::node::{NODE_BYTES, Node};
+use crate::place::Place;
 
-mod methods;
+pub type BytePool<'a> = Pool<'a, u8>;
 
-// The first `count` records of the bytes are the list. Behind them all is 0 up to the capacity, and 50 zeros are a blank record.
-#[derive(Drop)]
-pub struct BytePool<'a> {
-    bytes: Lent<'a, u8>,
-    count: usize,
-    ghost within: { count ≤ capped (length bytes.places.now / node_bytes) },
-    ghost blanks: { bytes.places.now ≡ laid 0 (take (node_bytes * count) bytes.places.now) (node_bytes * capped (length bytes.places.now / node_bytes)) (drop (node_bytes * capped (length bytes.places.now / node_bytes)) bytes.places.now) },
+// A place is a byte of a written record. Those of no record are 0, and 50 zeros are a blank record.
+impl Place for u8 {
+    const WIDTH: usize = NODE_BYTES;
+
+    ghost WIDTH = { node_bytes };
+
+    ghost span = { λ n. node_bytes * n };
+
+    ghost room = { λ n. n / node_bytes };
+
+    ghost empty = { 0 };
+
+    ghost node_in = { read_node };
+
+    ghost nodes_in = { read_nodes };
+
+    ghost shown = { bytes };
+
+    ghost wide = { lit< tt };
+
+    ghost spans = { λ _. refl };
+
+    ghost rooms = { λ _. refl };
+
+    ghost long = { λ n m _. length_nodes n m };
+
+    ghost more = { λ n m _. nodes_more n m };
+
+    ghost own = { nodes_own };
+
+    ghost fronts = { λ _ _. refl };
+
+    ghost shows = { bytes_hold };
+
+    ghost copied = { λ x y e. e };
+
+    ghost sure = { λ _. tt };
+
+    fn empty() -> u8 {
+        0
+    }
+
+    fn node(places: &[u8]) -> Node {
+        get_node(places)
+    }
+
+    #[tactic(auto, unfolding(crate::specs::Format::read_node))]
+    fn level(places: &[u8]) -> u8 {
+        places[0]
+    }
+
+    #[tactic(auto, unfolding(crate::specs::Format::read_node))]
+    fn mask(places: &[u8]) -> u8 {
+        places[1]
+    }
+
+    #[tactic(auto, using(crate::proofs::ByteFields::link_at))]
+    fn link(places: &[u8], i: usize) -> u16 {
+        let at = LINKS_AT + LINK_BYTES * i;
+        u16::read(&places[at..at + LINK_BYTES])
+    }
+
+    #[tactic(auto, using(crate::proofs::ByteFields::offset_at))]
+    fn offset(places: &[u8], i: usize) -> u32 {
+        let at = OFFSETS_AT + OFFSET_BYTES * i;
+        u32::read(&places[at..at + OFFSET_BYTES])
+    }
+
+    fn put(places: &mut [u8], node: &Node) {
+        put_node(places, node);
+    }
 }

@@ -1,8 +1,8 @@
 // Records as bytes: level, mask, links and offsets, each number with its low byte first.
-ghost use Rattle.std.specs.Prelude.{◌≡◌, ◌^◌, ◌<◌, ◌≤◌, length};
+ghost use Rattle.std.specs.Prelude.{◌≡◌, ◌*◌, ◌^◌, ◌<◌, ℕ, length, map};
 ghost use Rattle.std.specs.List.{flat_map, AllByRecursion};
 ghost use Rattle.nodes.specs.Records.{children};
-ghost use Rattle.nodes.specs.Format.{Bytes, Fitting, bytes_of, node_bytes, read_node, value_of, values_of, written};
+ghost use Rattle.nodes.specs.Format.{Fitting, bytes_of, node_bytes, read_node, value_of, values_of, written};
 
 use crate::node::{CHILDREN, NODE_BYTES, Node};
 
@@ -18,90 +18,97 @@ pub(crate) const LINKS_AT: usize = 2;
 // The offsets begin behind the links.
 pub(crate) const OFFSETS_AT: usize = LINKS_AT + LINK_BYTES * CHILDREN;
 
-// The number that the bytes write, low byte first.
-pub(crate) fn number(bytes: &[u8]) -> u32
-    requires { length bytes.now ≤ 4 }
-    ensures value { result ≡ value_of bytes.now }
-    ensures each { Bytes bytes.now }
-{
-    let mut n = 0;
-    for k in (0..bytes.len()).rev() {
-        n = n * 256 + bytes[k] as u32;
-    }
-    n
-}
-
-// Writes a number over the bytes, low byte first.
-fn put_number(bytes: &mut [u8], number: u32)
-    ensures { bytes.new ≡ bytes_of (length bytes.old) number }
-{
-    let mut rest = number;
-    for k in 0..bytes.len() {
-        bytes[k] = (rest % 256) as u8;
-        rest /= 256;
-    }
-}
-
 // Writes a number over any bytes, low byte first. What does not fit them is left out.
 pub fn write_number(bytes: &mut [u8], number: u32)
     ensures { bytes.new ≡ bytes_of (length bytes.old) number }
 {
-    put_number(bytes, number);
-}
-
-// The eight links that the bytes write.
-fn links(bytes: &[u8]) -> [u16; CHILDREN]
-    requires { length bytes.now ≡ 16 }
-    ensures value { result ≡ values_of 2 children bytes.now }
-    ensures each { Bytes bytes.now }
-{
-    let mut links = [0; CHILDREN];
-    for i in 0..CHILDREN {
-        links[i] = number(&bytes[LINK_BYTES * i..LINK_BYTES * i + LINK_BYTES]) as u16;
-    }
-    links
-}
-
-// The eight offsets that the bytes write.
-fn offsets(bytes: &[u8]) -> [u32; CHILDREN]
-    requires { length bytes.now ≡ 32 }
-    ensures value { result ≡ values_of 4 children bytes.now }
-    ensures each { Bytes bytes.now }
-{
-    let mut offsets = [0; CHILDREN];
-    for i in 0..CHILDREN {
-        offsets[i] = number(&bytes[OFFSET_BYTES * i..OFFSET_BYTES * i + OFFSET_BYTES]);
-    }
-    offsets
-}
-
-// Writes the links over the bytes.
-fn put_links(bytes: &mut [u8], links: &[u16; CHILDREN])
-    requires { length bytes.old ≡ 16 }
-    ensures bytes { bytes.new ≡ flat_map (bytes_of 2) links.now }
-    ensures eight { length links.now ≡ children }
-    ensures each { AllByRecursion (λ link. link < 2 ^ 16) links.now }
-{
-    for i in 0..CHILDREN {
-        put_number(
-            &mut bytes[LINK_BYTES * i..LINK_BYTES * i + LINK_BYTES],
-            u32::from(links[i]),
-        );
+    let mut rest = number;
+    for byte in bytes.iter_mut() {
+        *byte = (rest % 256) as u8;
+        rest /= 256;
     }
 }
 
-// Writes the offsets over the bytes.
-fn put_offsets(bytes: &mut [u8], offsets: &[u32; CHILDREN])
-    requires { length bytes.old ≡ 32 }
-    ensures bytes { bytes.new ≡ flat_map (bytes_of 4) offsets.now }
-    ensures eight { length offsets.now ≡ children }
-    ensures each { AllByRecursion (λ offset. offset < 2 ^ 32) offsets.now }
+// A link or an offset: a number that takes so many bytes of a written record.
+pub(crate) trait Field: Copy + Default {
+    const WIDTH: usize;
+
+    // how many bytes it takes
+    ghost WIDTH: { ℕ };
+
+    // the number that it is
+    ghost number: { Self → ℕ };
+
+    // The field that its bytes write.
+    fn read(bytes: &[u8]) -> Self
+        requires { length bytes.now ≡ WIDTH }
+        ensures { number result ≡ value_of bytes.now };
+
+    // Writes the field over its bytes, which it fits.
+    fn write(self, bytes: &mut [u8])
+        requires { length bytes.old ≡ WIDTH }
+        ensures bytes { bytes.new ≡ bytes_of WIDTH (number self) }
+        ensures fits { number self < 256 ^ WIDTH };
+}
+
+impl Field for u16 {
+    const WIDTH: usize = LINK_BYTES;
+
+    ghost WIDTH = { 2 };
+
+    ghost number = { λ link. link };
+
+    #[tactic(auto, using(crate::proofs::LowFirst::value_two))]
+    fn read(bytes: &[u8]) -> u16 {
+        u16::from_le_bytes([bytes[0], bytes[1]])
+    }
+
+    fn write(self, bytes: &mut [u8]) {
+        write_number(bytes, u32::from(self));
+    }
+}
+
+impl Field for u32 {
+    const WIDTH: usize = OFFSET_BYTES;
+
+    ghost WIDTH = { 4 };
+
+    ghost number = { λ offset. offset };
+
+    #[tactic(auto, using(crate::proofs::LowFirst::value_four))]
+    fn read(bytes: &[u8]) -> u32 {
+        u32::from_le_bytes([bytes[0], bytes[1], bytes[2], bytes[3]])
+    }
+
+    fn write(self, bytes: &mut [u8]) {
+        write_number(bytes, self);
+    }
+}
+
+// The eight fields that the bytes write.
+#[tactic(auto, unfolding(crate::specs::Format::values_of))]
+fn fields<F: Field>(bytes: &[u8]) -> [F; CHILDREN]
+    requires { length bytes.now ≡ F.WIDTH * children }
+    ensures { map F.number result ≡ values_of F.WIDTH children bytes.now }
 {
-    for i in 0..CHILDREN {
-        put_number(
-            &mut bytes[OFFSET_BYTES * i..OFFSET_BYTES * i + OFFSET_BYTES],
-            offsets[i],
-        );
+    let mut fields = [F::default(); CHILDREN];
+    for (i, field) in fields.iter_mut().enumerate() {
+        let at = F::WIDTH * i;
+        *field = F::read(&bytes[at..at + F::WIDTH]);
+    }
+    fields
+}
+
+// Writes eight fields over the bytes.
+fn put_fields<F: Field>(bytes: &mut [u8], fields: &[F; CHILDREN])
+    requires { length bytes.old ≡ F.WIDTH * children }
+    ensures bytes { bytes.new ≡ flat_map (λ field. bytes_of F.WIDTH (F.number field)) fields.now }
+    ensures eight { length fields.now ≡ children }
+    ensures each { AllByRecursion (λ field. F.number field < 256 ^ F.WIDTH) fields.now }
+{
+    for (i, field) in fields.iter().enumerate() {
+        let at = F::WIDTH * i;
+        field.write(&mut bytes[at..at + F::WIDTH]);
     }
 }
 
@@ -112,13 +119,11 @@ pub(crate) fn get_node(bytes: &[u8]) -> Node
     ensures fitting { Fitting result }
     ensures back { written result ≡ bytes.now }
 {
-    let links = links(&bytes[LINKS_AT..OFFSETS_AT]);
-    let offsets = offsets(&bytes[OFFSETS_AT..NODE_BYTES]);
     Node {
         level: bytes[0],
         mask: bytes[1],
-        links,
-        offsets,
+        links: fields(&bytes[LINKS_AT..OFFSETS_AT]),
+        offsets: fields(&bytes[OFFSETS_AT..NODE_BYTES]),
     }
 }
 
@@ -131,8 +136,8 @@ pub(crate) fn put_node(bytes: &mut [u8], node: &Node)
 {
     bytes[0] = node.level;
     bytes[1] = node.mask;
-    put_links(&mut bytes[LINKS_AT..OFFSETS_AT], &node.links);
-    put_offsets(&mut bytes[OFFSETS_AT..NODE_BYTES], &node.offsets);
+    put_fields(&mut bytes[LINKS_AT..OFFSETS_AT], &node.links);
+    put_fields(&mut bytes[OFFSETS_AT..NODE_BYTES], &node.offsets);
 }
 
 impl Node {

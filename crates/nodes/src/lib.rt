@@ -4,8 +4,9 @@
 
 pub mod byte_pool;
 pub mod format;
-mod memory;
+pub mod lent_pool;
 pub mod node;
+pub mod place;
 pub mod pool;
 pub mod row_pool;
 pub mod tail;

@@ -29,24 +29,17 @@ pub struct Node {
 
 impl Node {
     // The record of zeros, its links too. It is written as zeros.
+    #[tactic(auto, unfolding(crate::specs::Format::written, crate::specs::Format::bytes_of))]
     pub fn blank() -> Node
         ensures value { result ≡ blank }
         ensures zeros { written result ≡ replicate node_bytes 0 }
     {
-        alike(0, 0, 0, 0)
-    }
-}
-
-// The record whose children all have one link and one offset.
-fn alike(level: u8, mask: u8, link: u16, offset: u32) -> Node
-    ensures value { result ≡ record { level = level; mask = mask; links = replicate children link; offsets = replicate children offset } }
-    ensures zeros { level ≡ 0 → mask ≡ 0 → link ≡ 0 → offset ≡ 0 → written result ≡ replicate node_bytes 0 }
-{
-    Node {
-        level,
-        mask,
-        links: [link; CHILDREN],
-        offsets: [offset; CHILDREN],
+        Node {
+            level: 0,
+            mask: 0,
+            links: [0; CHILDREN],
+            offsets: [0; CHILDREN],
+        }
     }
 }
 

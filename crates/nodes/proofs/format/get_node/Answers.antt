@@ -1,4 +1,5 @@
-use Rattle.std.proofs.Common.{sym, ap, ◌∙◌, subst, rules}
+use Rattle.std.proofs.Common.{sym, ap, ◌∙◌, subst}
+use Rattle.std.proofs.lemmas.List.{map-id}
 use Rattle.nodes.specs.Format.{Fitting, written}
 use Rattle.nodes.proofs.Numbers.{all_bytes}
 use Rattle.nodes.proofs.Written.{node_read, read_fits, written_read}
@@ -6,7 +7,7 @@ use Rattle.nodes.proofs.format.get_node.Goals as goal
 
 pub returns : goal.returns
 returns c =
-    let e = node_read c.args.bytes.now c.links-links.result c.offsets-offsets.result (search rules) (search rules) in
+    let e = node_read c.args.bytes.now c.fields.result c.fields-2.result (sym (map-id c.fields.result) ∙ c.fields.ensures) (sym (map-id c.fields-2.result) ∙ c.fields-2.ensures) in
     let each = all_bytes c.args.bytes.now c.type_inv.bytes in
     record {
       value = e;

@@ -1,8 +1,0 @@
-use Rattle.std.proofs.Common.{◌≡◌, ◌*◌, take}
-use Rattle.std.specs.List.{flat_map}
-use Rattle.nodes.specs.Format.{bytes_of}
-use Rattle.nodes.proofs.format.put_offsets.Given as goal
-
--- the first i numbers are written
-abbrev pub invariant-loop-i : goal.invariant-loop-i
-invariant-loop-i l = take (4 * l.i) l.bytes ≡ flat_map (bytes_of 4) (take l.i l.offsets)
