@@ -1,5 +1,6 @@
 -- Counting under records, as the code steps.
 use Rattle.std.proofs.Common.{◌≡◌, ℕ, zero, suc, ◌+◌, ◌-◌, ◌^◌, ◌<◌, ◌≤◌, List, length, Some, None, Option, sym, ap, ◌∙◌, subst, ⊎_elim, add-one, arith, MatchOption}
+use Rattle.std.specs.Option.{unwrap_or}
 use Rattle.std.proofs.lemmas.Bool.{cases_lt}
 use Rattle.nodes.specs.declared.node.Node.{Node}
 use Rattle.dag.specs.Rules.{node_at, link_of, offset_of}
@@ -9,6 +10,9 @@ use Rattle.dag.specs.Sizes.{size}
 use Rattle.dag.specs.Meets.{meet, meet_children}
 use Rattle.dag.specs.Judged.{NodePasses, Shaped}
 use Rattle.dag.specs.Checks.{ChildRight, Countable, Here, LinksDown}
+use Rattle.nodes.specs.Finding.{LowestFrom}
+use Rattle.dag.proofs.Lowest.{lowest_most}
+use Rattle.voxels.proofs.Numbering.{found_lowest, absent_new}
 use Rattle.dag.proofs.LastChild.{highest_set, size_last}
 use Rattle.dag.proofs.Turns.{here_inside, left_next, left_late}
 use Rattle.dag.proofs.Checks.{bottom_from, upper_from, offsets_from, step_countable}
@@ -23,6 +27,19 @@ step_down ns few (suc k) n j h c l low high =
     let top : (2 ^ j ≤ (node_at ns n).mask) × ((node_at ns n).mask < 2 ^ suc j) = (low, subst (λ x. (node_at ns n).mask < 2 ^ x) (add-one j) high) in
     subst (λ q. (size ns (suc k) n ≡ offset_of (node_at ns n) j + size ns q (link_of (node_at ns n) j)) × Countable ns q (link_of (node_at ns n) j)) e
     (size_last ns k n j c.0 (c.2.1 n (omega arith)).offsets l top, step_countable ns k n j few l c (highest_set (node_at ns n) j top))
+
+-- a record under which cells can be counted has a child
+pub some_mask : (ns : List Node) (k n : ℕ) → 0 < k → Countable ns k n → 0 < (node_at ns n).mask
+some_mask ns zero n h c = absurd (omega arith)
+some_mask ns (suc k) n h c = (c.2.1 n (omega arith)).r1.2
+
+-- the lowest number of an equal record, by what the search answers
+pub lowest_or : (ns : List Node) (node : Node) (r : Option ℕ) → LowestFrom 0 ns node r → unwrap_or r (length ns) ≡ lowest ns node
+lowest_or ns node (Some n) f = found_lowest ns node n f
+lowest_or ns node None f =
+    let most = lowest_most ns node in
+    let new = absent_new ns node f in
+    omega arith
 
 -- ---- one record
 

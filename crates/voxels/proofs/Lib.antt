@@ -4,12 +4,14 @@ pub mod Retagging
 pub mod Tables
 pub mod Masks
 pub mod Numbering
+pub mod Growing
 pub mod Closing
 pub mod Few
 pub mod Placing
 pub mod Cutting
 pub mod Sealing
 pub mod Placed
+pub mod Showing
 pub mod SmallPool
 pub mod Descent
 pub mod Summing

@@ -1,14 +1,16 @@
 -- What place makes of an open map.
-use Rattle.std.proofs.Common.{◌≡◌, ℕ, ◌+◌, ◌^◌, ◌<◌, ◌≤◌, Bool, true, false, cond, not, ltb, leb, List, [], ◌∷◌, ◌++◌, length, Some, None, Option, sym, refl, ap, ◌∙◌, subst, arith}
+use Rattle.std.proofs.Common.{◌≡◌, ℕ, ◌+◌, ◌^◌, ◌<◌, ◌≤◌, Bool, true, false, cond, not, ltb, leb, List, [], ◌∷◌, ◌++◌, length, Some, None, Ok, Err, Option, inl, inr, sym, refl, ap, ◌∙◌, subst, arith}
 use mathlib.Core.List.{map-append}
 use Rattle.std.specs.List.{AllByRecursion}
 use Rattle.std.proofs.ByRecursion.{All-weaker, All-push}
 use Rattle.std.proofs.lemmas.List.{length_push}
 use Rattle.std.proofs.lemmas.Bool.{lt-ltb, le-ltb, le-leb, lt-leb}
-use Rattle.cells.specs.Refusals.{Answer, gives, refuses, refuse_if}
+use Rattle.cells.specs.Refusals.{Answer, gives, refuses, refuse_if, number_of}
+use Rattle.cells.specs.declared.refusal.Refusal.{Refusal}
 use Rattle.cells.specs.Hall.{levels_fit}
 use Rattle.cells.proofs.Codes.{levels_fit_lem}
 use Rattle.nodes.specs.declared.node.Node.{Node}
+use Rattle.nodes.specs.Pools.{Memory}
 use Rattle.tags.specs.Stores.{can_add}
 use Rattle.dag.specs.Sets.{holds, count, CellSet}
 use Rattle.dag.specs.Sealed.{below}
@@ -18,11 +20,13 @@ use Rattle.dag.proofs.Next.{set_push, push_last, push_one, first_last, first_one
 use Rattle.voxels.specs.declared.phase.Phase.{Phase}
 use Rattle.voxels.specs.declared.phase.Phase.TheVariants.{Open}
 use Rattle.voxels.specs.declared.row.OpenRow.{OpenRow}
-use Rattle.voxels.specs.Places.{CellTaken, place_told, place_early, Early}
+use Rattle.voxels.specs.Closes.{RowsFor}
+use Rattle.voxels.specs.Places.{CellTaken, place_told}
 use Rattle.voxels.specs.Stages.{AtStage, Closed}
 use Rattle.voxels.specs.Stands.{OpenAs, Building, EmptyRows}
 use Rattle.voxels.proofs.Few.{holds_above, holds_none}
 use Rattle.voxels.proofs.Placing.{cell_placed}
+use Rattle.voxels.proofs.Sealing.{begins_at}
 
 -- ---- the answer
 
@@ -54,17 +58,6 @@ module _ (L : ℕ) (cells : List ℕ) (room : ℕ) (admits : List ℕ → Bool) 
 no_cells : (a b : ℕ) → holds [] a b ≡ false
 unfolding count
 no_cells a b = refl
-
--- a code that is not above the last is refused early
-pub early_not_above : (phase : Phase) (L m code : ℕ) (last : Option ℕ) → phase ≡ Open → last ≡ Some m → code < 8 ^ L → code ≤ m → Early (place_early phase L last code) (refuses 4)
-early_not_above phase L m code last e f h l =
-    subst (λ p. Early (place_early p L last code) (refuses 4)) (sym e)
-    (subst (λ o. Early (place_early Open L o code) (refuses 4)) (sym f) (go (leb (8 ^ L) code) (leb code m) (lt-leb (8 ^ L) code h) (le-leb code m l)))
-  where
-    go : (a b : Bool) → a ≡ false → b ≡ true → Early (cond a (Some 3) (cond b (Some 4) None)) (refuses 4)
-    go false true p q = refl
-    go true b p q = let z : ◌≡◌ {A = ℕ} 0 1 = cc in absurd (omega arith)
-    go false false p q = let z : ◌≡◌ {A = ℕ} 0 1 = cc in absurd (omega arith)
 
 -- ---- the map with the cell
 
@@ -115,6 +108,25 @@ module _ {K : Type 0} (word_of : K → ℕ) (L : ℕ) (cells : List ℕ) (tags :
     pub later_not : code ≤ m → holds cells code (8 ^ L) ≡ true
     later_not l = holds_above L cells m code stands.set.inside building.1.placed building.1.last l
 
+  -- the rows for the cell: a refusal is what place tells
+  pub rows_refused : (o : Option ℕ) → last ≡ o → (room : ℕ) (admits : List ℕ → Bool) (word : ℕ) (memory after : Memory) (ms : List Node) (e : Refusal)
+      → RowsFor levels code o ns memory room rows ms after (Err e) → refuses (number_of e) ≡ place_told L cells room admits words code word
+  rows_refused None z room admits word memory after ms e r = absurd r
+  rows_refused (Some m) z room admits word memory after ms e r =
+      elim r.1 [
+        | inl p ↦ ap refuses p.1 ∙ told_not_above L cells room admits words code word code_inside (later_not m z p.0)
+        | inr p ↦ told_full L cells room admits words code word code_inside (later_above m z p.0) (number_of e) p.1.1
+            (subst (λ l. room < length (below l cells code)) stands.levels_are (p.1.2 cells (begins_at word_of L cells tags phase levels last ns rows words stands m z)))
+      ]
+
+  -- and otherwise the cell is above all others, and the list is that of the sub-cubes below it
+  pub rows_taken : (o : Option ℕ) → last ≡ o → (room : ℕ) (memory after : Memory) (ms : List Node) (left : List OpenRow)
+      → RowsFor levels code o ns memory room rows ms after (Ok left) → (holds cells code (8 ^ L) ≡ false) × (ms ≡ below L cells code)
+  rows_taken None z room memory after ms left r = (first_above z, r.0.0 ∙ first_list z)
+  rows_taken (Some m) z room memory after ms left r =
+      let closed = r.1 cells (begins_at word_of L cells tags phase levels last ns rows words stands m z) in
+      (later_above m z r.0, closed.list ∙ ap (λ l. below l cells code) stands.levels_are)
+
   -- what add-cell leaves, where all cells are below the code
   module _ (tag : K) (phase' : Phase) (levels' : ℕ) (last' : Option ℕ) (ms : List Node) (after : List OpenRow) (words' : List ℕ)
       (p : phase' ≡ phase) (q : levels' ≡ levels) (r : last' ≡ Some code) (w : words' ≡ words ++ word_of tag ∷ []) where
@@ -153,3 +165,11 @@ module _ {K : Type 0} (word_of : K → ℕ) (L : ℕ) (cells : List ℕ) (tags :
           let c : Closed L cells m code ms left = subst (λ k. Closed k cells m code ms left) stands.levels_are closed in
           let all = All-weaker (λ d. d ≤ m) (λ d. d < code) (λ d k. omega arith) cells b.0 in
           (open_more all (later_stage L cells m code ms left after fits (set_push L cells code stands.set all code_inside) l c taken), c.list)
+
+      -- so the rows for the cell leave a map that stands for one cell more
+      pub rows_open : (o : Option ℕ) → last ≡ o → (room : ℕ) (memory pool : Memory) (grown : List Node) → ms ≡ grown
+          → RowsFor levels code o ns memory room rows grown pool (Ok left)
+          → OpenAs word_of L (cells ++ code ∷ []) (tags ++ tag ∷ []) phase' levels' last' ms after words' × (ms ≡ below L cells code)
+      rows_open None z room memory pool grown same r = first_open z (same ∙ r.0.0) r.1
+      rows_open (Some m) z room memory pool grown same r =
+          later_open m z r.0 (subst (λ xs. Closed levels cells m code xs left) (sym same) (r.1 cells (begins_at word_of L cells tags phase levels last ns rows words stands m z)))

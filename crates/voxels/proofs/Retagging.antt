@@ -3,15 +3,15 @@ use Rattle.std.proofs.Common.{◌≡◌, ℕ, ◌+◌, ◌^◌, ◌<◌, ◌≤�
 use Rattle.std.proofs.lemmas.Bool.{lt-ltb}
 use Rattle.std.proofs.lemmas.List.{length-map, length-set, map-set}
 use Rattle.cells.specs.Refusals.{Answer, gives, refuses, refuse_if}
-use Rattle.cells.specs.Hall.{levels_fit, cell_fits, code_of}
+use Rattle.cells.specs.Hall.{cell_fits, code_of}
 use Rattle.cells.specs.declared.hall.Cell.{Cell}
-use Rattle.cells.proofs.Checks.{passed, goes_on}
-use Rattle.cells.proofs.Codes.{code_below}
+use Rattle.cells.proofs.Checks.{goes_on}
+use Rattle.cells.proofs.Codes.{code_below, levels_fit_lem}
 use Rattle.nodes.specs.Records.{none}
 use Rattle.tags.specs.Stores.{can_change}
 use Rattle.dag.specs.Sets.{CellSet, has, count}
 use Rattle.dag.specs.Sealed.{sealed}
-use Rattle.dag.specs.Walk.{rank}
+use Rattle.dag.specs.Walk.{marks, rank}
 use Rattle.dag.specs.Laws.{Nameable}
 use Rattle.dag.proofs.Counts.{count_split}
 use Rattle.dag.proofs.Contents.{count_one}
@@ -19,22 +19,24 @@ use Rattle.dag.proofs.Judging.{length_count}
 use Rattle.dag.proofs.Laws.{marks_cells, ranks_cells}
 use Rattle.voxels.specs.Finds.{found}
 use Rattle.voxels.specs.Shown.{Shown, Accepted, ShowsSealed}
-use Rattle.voxels.specs.Retags.{retag_at, retag_told, with_word}
+use Rattle.voxels.specs.Phases.{if_sealed, levels_in}
+use Rattle.voxels.specs.Retags.{Changes, RetagTells, retag_answer, retag_at, retag_told, with_word}
+use Rattle.voxels.proofs.Looking.{sealed_fit, sealed_is}
 
--- a code that was made is the cell's, and the cell lies in the hall
-pub inside_code : (L : ℕ) (cell : Cell) (code : ℕ) → gives code ≡ refuse_if (not (levels_fit L)) 1 (refuse_if (not (cell_fits L cell)) 3 (gives (code_of L cell)))
-    → (code ≡ code_of L cell) × (cell_fits L cell ≡ true)
-inside_code L cell code e =
-    let p = passed (not (levels_fit L)) 1 (refuse_if (not (cell_fits L cell)) 3 (gives (code_of L cell))) code e in
-    let q = passed (not (cell_fits L cell)) 3 (gives (code_of L cell)) code p.1 in
-    (same code (code_of L cell) q.1, held (cell_fits L cell) q.0)
-  where
-    same : (a b : ℕ) → gives a ≡ gives b → a ≡ b
-    same a b e = cc
-
-    held : (b : Bool) → not b ≡ false → b ≡ true
-    held true e = refl
-    held false e = let z : ◌≡◌ {A = ℕ} 0 1 = cc in absurd (omega arith)
+-- a map with other words
+abbrev pub with_words : Shown → List ℕ → (List ℕ → Bool) → Shown
+with_words m words admits = record {
+  phase = m.phase;
+  levels = m.levels;
+  last = m.last;
+  rows = m.rows;
+  nodes = m.nodes;
+  capacity = m.capacity;
+  memory = m.memory;
+  behind = m.behind;
+  words = words;
+  admits = admits;
+}
 
 -- a cell of the set has a rank below the number of cells
 rank_below : (L : ℕ) (cells : List ℕ) (code : ℕ) → CellSet L cells → code < 8 ^ L → has cells code ≡ true → count cells 0 code < length cells
@@ -115,13 +117,50 @@ module _ {K : Type 0} (word_of : K → ℕ) (L : ℕ) (cells : List ℕ) (tags :
         tag_each = length-set tags (count cells 0 code) tag ∙ s.tag_each;
       }
 
-  -- both, as the code has the cell's code and the tag's word
-  pub retag_by : (a : Answer (Unit {0})) (n w : ℕ) (after : Shown)
-      → gives n ≡ refuse_if (not (levels_fit m.levels)) 1 (refuse_if (not (cell_fits m.levels cell)) 3 (gives (code_of m.levels cell))) → w ≡ word_of tag
-      → a ≡ retag_at m w (found m.levels m.nodes n) → Accepted a (after ≡ with_word m (rank m.levels m.nodes n) w)
-      → (a ≡ retag_told L cells m cell (word_of tag)) × Accepted a (ShowsSealed word_of L cells (set tags (count cells 0 code) tag) after)
-  retag_by a n w after made is e changed =
-      let p = inside_code m.levels cell n made in
-      let f = retag_tells p.1 a (e ∙ ap₂ (λ v k. retag_at m v (found m.levels m.nodes k)) is p.0) in
-      let h = subst (λ k. Accepted a (after ≡ with_word m (rank m.levels m.nodes k) w)) p.0 changed in
-      (f, retag_stands a f after (subst (λ v. Accepted a (after ≡ with_word m (rank m.levels m.nodes (code_of m.levels cell)) v)) is h))
+  -- what retag answers, wherever the cell lies
+  told_all : (a : Answer (Unit {0})) → a ≡ retag_answer m cell (word_of tag) → a ≡ retag_told L cells m cell (word_of tag)
+  told_all a e =
+      let f = e ∙ ap (λ p. if_sealed p (refuse_if (not (cell_fits m.levels cell)) 3 (retag_at m (word_of tag) (found m.levels m.nodes (code_of m.levels cell))))) s.phase_is in
+      go (cell_fits m.levels cell) refl f
+    where
+      go : (b : Bool) → cell_fits m.levels cell ≡ b → a ≡ refuse_if (not b) 3 (retag_at m (word_of tag) (found m.levels m.nodes (code_of m.levels cell)))
+          → a ≡ retag_told L cells m cell (word_of tag)
+      go true fits f = retag_tells fits a f
+      go false fits f =
+          f ∙ ap (λ b. refuse_if (not b) 3 (refuse_if (not (has cells code)) 5 (refuse_if (not (m.admits (set m.words (count cells 0 code) (word_of tag)))) 7 (gives tt))))
+          (sym fits ∙ ap (λ l. cell_fits l cell) s.levels_are)
+
+-- what the store's change leaves of the map
+pub changed_by : (m : Shown) (cell : Cell) (w count code n : ℕ) (a : Answer (Unit {0})) (words : List ℕ) (admits : List ℕ → Bool)
+    → gives count ≡ if_sealed m.phase (gives m.levels) → gives code ≡ refuse_if (not (cell_fits count cell)) 3 (gives (code_of count cell)) → Some n ≡ found count m.nodes code
+    → a ≡ refuse_if (not (can_change m.admits m.words n w)) 7 (gives tt) → words ≡ cond (can_change m.admits m.words n w) (set m.words n w) m.words → admits ≡ m.admits
+    → Changes cell w m (with_words m words admits) a
+changed_by m cell w count code n a words admits e c f told is rule =
+    subst (λ x. Accepted x (with_words m words admits ≡ with_word m (rank m.levels m.nodes (code_of m.levels cell)) w)) (sym told) (go (can_change m.admits m.words n w) is)
+  where
+    there : (b : Bool) → Some n ≡ cond b (Some (rank count m.nodes code)) None → n ≡ rank count m.nodes code
+    there true h = cc
+    there false h = let z : ◌≡◌ {A = ℕ} 0 1 = cc in absurd (omega arith)
+
+    inside : (b : Bool) → gives code ≡ refuse_if (not b) 3 (gives (code_of count cell)) → code ≡ code_of count cell
+    inside true h = cc
+    inside false h = let z : ◌≡◌ {A = ℕ} 0 1 = cc in absurd (omega arith)
+
+    at : n ≡ rank m.levels m.nodes (code_of m.levels cell)
+    at =
+        there (marks count m.nodes code) f ∙ ap (rank count m.nodes) (inside (cell_fits count cell) c)
+        ∙ ap (λ l. rank l m.nodes (code_of l cell)) (sealed_is m.phase m.levels count e).1
+
+    go : (b : Bool) → words ≡ cond b (set m.words n w) m.words
+        → Accepted (refuse_if {A = Unit {0}} (not b) 7 (gives tt)) (with_words m words admits ≡ with_word m (rank m.levels m.nodes (code_of m.levels cell)) w)
+    go true h = ap₂ (with_words m) (h ∙ ap (λ k. set m.words k w) at) rule
+    go false h = tt
+
+-- so the answer by the list is the answer by the cells, and an accepted call changes what it says
+pub retag_by : {K : Type 0} (word_of : K → ℕ) (m after : Shown) (cell : Cell) (tag : K) (a : Answer (Unit {0}))
+    → levels_in m.phase m.levels ≡ true → length m.nodes ≤ none
+    → a ≡ retag_answer m cell (word_of tag) → Changes cell (word_of tag) m after a → RetagTells word_of cell tag m after a
+retag_by word_of m after cell tag a fit few e changed = λ L cells tags s.
+    let one = (levels_fit_lem m.levels (sealed_fit m.phase m.levels s.phase_is fit)).0 in
+    let f = told_all word_of L cells tags m cell tag s one few a e in
+    (f, retag_stands word_of L cells tags m cell tag s one few a f after changed)

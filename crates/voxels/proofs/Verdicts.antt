@@ -1,6 +1,6 @@
 -- What the checks of a delivered list say of it.
-use Rattle.std.proofs.Common.{◌≡◌, ℕ, zero, suc, ◌<◌, ◌≤◌, List, length, sym, ◌∙◌, arith}
-use Rattle.std.proofs.lemmas.Bool.{cond-true, cond-false, lt-ltb, le-ltb}
+use Rattle.std.proofs.Common.{◌≡◌, ℕ, zero, suc, ◌<◌, ◌≤◌, false, List, length, sym, ◌∙◌, arith}
+use Rattle.std.proofs.lemmas.Bool.{and_from, both_ways, cond-true, cond-false, eq-eqb, lt-ltb, le-ltb}
 use Rattle.nodes.specs.declared.node.Node.{Node}
 use Rattle.dag.specs.Rules.{node_at}
 use Rattle.dag.specs.Walk.{root}
@@ -10,6 +10,7 @@ use Rattle.dag.specs.Sizes.{size}
 use Rattle.dag.specs.Meets.{meet}
 use Rattle.dag.specs.Judged.{cells_under}
 use Rattle.dag.specs.Checks.{Countable, LinksDown, PassTo}
+use Rattle.voxels.specs.Finds.{has_root}
 use Rattle.dag.proofs.Meeting.{meet_past}
 use Rattle.dag.proofs.Judging.{passes_seals, seals_passes}
 
@@ -27,6 +28,9 @@ module _ (L : ℕ) (ns : List Node) (one : 1 ≤ L) (few : Nameable ns) where
 
   pub not_root : 0 < length ns → ((node_at ns (root ns)).level ≡ L → ⊥) → Seals L ns → ⊥
   not_root some h s = h ((seals_passes L ns one few s).r4 some)
+
+  pub not_rooted : 0 < length ns → has_root L ns ≡ false → Seals L ns → ⊥
+  not_rooted some h = not_root some (λ e. both_ways _ h (and_from _ _ (lt-ltb 0 (length ns) some) (eq-eqb _ L e)))
 
   pub not_order : 0 < length ns → length ns < meet ns L (root ns) 0 → Seals L ns → ⊥
   not_order some h s = let e = (seals_passes L ns one few s).order some in omega arith

@@ -1,9 +1,8 @@
 -- One step of a walk, by what the code reads of a record.
-use Rattle.std.proofs.Common.{◌≡◌, ℕ, zero, suc, ◌+◌, ◌*◌, ◌/◌, ◌%◌, ◌^◌, ◌<◌, ◌≤◌, true, false, cond, not, List, [], length, Some, None, sym, refl, ap, ◌∙◌, subst, add-zero, mod-lt, arith}
-use Rattle.std.proofs.lemmas.Bool.{and_from, and_left, and_right, lt-ltb, le-ltb, eq-eqb, ne_eqb}
+use Rattle.std.proofs.Common.{◌≡◌, ℕ, zero, suc, ◌+◌, ◌*◌, ◌/◌, ◌%◌, ◌^◌, ◌<◌, ◌≤◌, Bool, true, false, cond, eqb, not, List, [], length, Some, None, sym, refl, ap, ◌∙◌, subst, add-zero, mod-lt, arith}
+use Rattle.std.proofs.lemmas.Bool.{and_from, and_left, and_right, lt-ltb, le-ltb, eq-eqb, ne_eqb, eqb-true, eqb-false}
 use Rattle.cells.specs.Hall.{bit}
-use Rattle.cells.specs.SubCubes.{child}
-use Rattle.cells.proofs.Codes.{eight}
+use Rattle.cells.specs.SubCubes.{child, sub_cube}
 use Rattle.nodes.specs.Records.{none}
 use Rattle.nodes.specs.declared.node.Node.{Node}
 use Rattle.dag.specs.Rules.{node_at, link_of, offset_of}
@@ -11,9 +10,15 @@ use Rattle.dag.specs.Walk.{leads, walk, path, total, root, rank}
 use Rattle.dag.proofs.Marks.{child_is, walk_shut, walk_stray, walk_on, path_more, path_none}
 use Rattle.voxels.specs.Finds.{Shut, GoesTo, found}
 
--- the child that the code takes is that of the definition
-pub child_taken : (k code : ℕ) → code / 2 ^ (3 * k) % 8 ≡ child (suc k) code
-child_taken k code = ap (λ p. code / p % 8) (eight k) ∙ sym (child_is k code)
+-- a bit of a mask is set, or it is not
+pub bit_set : (i m : ℕ) (b : Bool) → b ≡ eqb (bit i m) 1 → b ≡ true → bit i m ≡ 0 → ⊥
+bit_set i m b e t z = let one = eqb-true (bit i m) 1 (sym e ∙ t) in omega arith
+
+pub bit_clear : (i m : ℕ) (b : Bool) → b ≡ eqb (bit i m) 1 → b ≡ false → bit i m ≡ 0
+bit_clear i m b e t =
+    let two = mod-lt (m / 2 ^ i) {m = 2} (omega arith) in
+    let other = eqb-false (bit i m) 1 (sym e ∙ t) in
+    omega arith
 
 module _ (ns : List Node) (k n i : ℕ) where
   pub shut : bit i (node_at ns n).mask ≡ 0 → Shut ns k n i
@@ -90,3 +95,19 @@ found_end L ns code k n sum some level z w p =
 -- a walk that is shut has found nothing
 pub found_free : (L : ℕ) (ns : List Node) (code : ℕ) → walk ns L (root ns) code ≡ false → None ≡ found L ns code
 found_free L ns code e = ap (λ b. cond b (Some (rank L ns code)) None) (sym (and_right _ _ e))
+
+-- the child that the code takes is that of the definition
+takes : (k i code : ℕ) → i ≡ sub_cube k code % 8 → child (suc k) code ≡ i
+takes k i code e = child_is k code ∙ sym e
+
+-- a step on the way to a code, from a record of level k to one of the level below
+module _ (ns : List Node) (k below n code i : ℕ) (up : k ≡ suc below) (e : i ≡ sub_cube below code % 8) where
+  pub step_walks : (next offset : ℕ) → GoesTo ns below n i next offset → walk ns k n code ≡ walk ns below next code
+  step_walks next offset g = ap (λ l. walk ns l n code) up ∙ g.walks code (takes below i code e)
+
+  pub step_adds : (next offset : ℕ) → GoesTo ns below n i next offset → total (path ns k n code) ≡ offset + total (path ns below next code)
+  step_adds next offset g = ap (λ l. total (path ns l n code)) up ∙ g.adds code (takes below i code e)
+
+  -- and one that is shut
+  pub step_shut : Shut ns below n i → walk ns k n code ≡ false
+  step_shut s = ap (λ l. walk ns l n code) up ∙ s code (takes below i code e)

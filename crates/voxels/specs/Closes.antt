@@ -1,5 +1,5 @@
 -- What closing the rows up to a code leaves, with the pool as it was where it is refused.
-use Rattle.std.specs.Prelude.{◌≡◌, ℕ, ◌<◌, List, length, Ok, Err, Result}
+use Rattle.std.specs.Prelude.{◌≡◌, ℕ, ◌<◌, ◌≤◌, ◌⊎◌, List, length, Some, None, Ok, Err, Option, Result}
 use Rattle.cells.specs.declared.refusal.Refusal.{Refusal}
 use Rattle.cells.specs.Refusals.{number_of}
 use Rattle.nodes.specs.declared.node.Node.{Node}
@@ -18,3 +18,12 @@ ClosedRows L m code ns memory capacity rows ms after (Ok left) =
     (cells : List ℕ) → AtStage L cells m 0 ns rows → Closed L cells m code ms left
 ClosedRows L m code ns memory capacity rows ms after (Err e) =
     SamePool ns memory ms after × (number_of e ≡ 6) × ((cells : List ℕ) → AtStage L cells m 0 ns rows → capacity < length (below L cells code))
+
+-- the rows for a cell that is to be taken: those that are there where there is no cell yet, and otherwise those that closing leaves;
+-- a code that is not above the last one is refused with 4
+abbrev pub RowsFor : ℕ → ℕ → Option ℕ → List Node → Memory → ℕ → List OpenRow → List Node → Memory → Result (List OpenRow) Refusal → Type 0
+RowsFor L code None ns memory capacity rows ms after (Ok left) = SamePool ns memory ms after × (left ≡ rows)
+RowsFor L code None ns memory capacity rows ms after (Err e) = ⊥
+RowsFor L code (Some m) ns memory capacity rows ms after (Ok left) = (m < code) × ClosedRows L m code ns memory capacity rows ms after (Ok left)
+RowsFor L code (Some m) ns memory capacity rows ms after (Err e) =
+    SamePool ns memory ms after × (((code ≤ m) × (number_of e ≡ 4)) ⊎ ((m < code) × ClosedRows L m code ns memory capacity rows ms after (Err e)))

@@ -1,11 +1,13 @@
 pub mod Phases
 pub mod Finds
+pub mod Growing
 pub mod Looks
 pub mod Stages
 pub mod Stands
 pub mod Places
 pub mod Closes
 pub mod Shown
+pub mod Tells
 pub mod Strict
 pub mod Visiting
 pub mod Sweeps

@@ -6,7 +6,8 @@ use Rattle.cells.specs.declared.hall.Cell.{Cell}
 use Rattle.tags.specs.Stores.{can_change}
 use Rattle.dag.specs.Sets.{has, count}
 use Rattle.dag.specs.Walk.{rank}
-use Rattle.voxels.specs.Shown.{Shown, Accepted, if_sealed}
+use Rattle.voxels.specs.Phases.{if_sealed}
+use Rattle.voxels.specs.Shown.{Shown, Accepted}
 use Rattle.voxels.specs.Finds.{found}
 use Rattle.voxels.specs.Shown.{ShowsSealed}
 

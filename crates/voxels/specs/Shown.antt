@@ -1,15 +1,14 @@
 -- What a map shows: its plain state, and what its pool and its store mean.
-use Rattle.std.specs.Prelude.{ℕ, Bool, List, Option}
-use Rattle.cells.specs.Refusals.{Answer, gives, refuses, number_of}
+use Rattle.std.specs.Prelude.{◌≡◌, ℕ, Bool, List, Option}
+use Rattle.cells.specs.Refusals.{Answer, gives, refuses}
 use Rattle.nodes.specs.declared.node.Node.{Node}
 use Rattle.nodes.specs.declared.pool.NodePool.{Ghosts as PoolMeaning}
 use Rattle.nodes.specs.Pools.{Memory}
 use Rattle.tags.specs.declared.store.TagStore.{Ghosts as StoreMeaning}
 use Rattle.voxels.specs.declared.phase.Phase.{Phase}
-use Rattle.voxels.specs.declared.phase.Phase.TheVariants.{Void, Open, Sealed}
 use Rattle.voxels.specs.declared.row.OpenRow.{OpenRow}
 use Rattle.voxels.specs.declared.map.Map.{Map}
-use Rattle.voxels.specs.Stands.{SealedAs}
+use Rattle.voxels.specs.Stands.{OpenAs, SealedAs}
 
 pub record Shown : Type 0 where
   pub phase : Phase
@@ -57,11 +56,15 @@ abbrev pub Given : {A : Type 0} → Answer A → (A → Type 0) → Type 0
 Given (gives value) P = P value
 Given (refuses _) P = Unit {0}
 
--- the answer of a call that wants a sealed map: a void map refuses with its number, an open one with 2
-abbrev pub if_sealed : {A : Type 0} → Phase → Answer A → Answer A
-if_sealed (Void refusal) next = refuses (number_of refusal)
-if_sealed Open next = refuses 2
-if_sealed Sealed next = next
+-- what no call changes: the capacity and the memory behind it, and the store's rule
+pub record Fixed (before after : Shown) : Type 0 where
+  pub capacity : after.capacity ≡ before.capacity
+  pub behind : after.behind ≡ before.behind
+  pub admits : after.admits ≡ before.admits
+
+-- an open map that shows this stands for cells, in code order, and their tags
+abbrev pub ShowsOpen : {K : Type 0} → (K → ℕ) → ℕ → List ℕ → List K → Shown → Type 0
+ShowsOpen word_of L cells tags m = OpenAs word_of L cells tags m.phase m.levels m.last m.nodes m.rows m.words
 
 -- a sealed map that shows this stands for cells, in code order, and their tags
 abbrev pub ShowsSealed : {K : Type 0} → (K → ℕ) → ℕ → List ℕ → List K → Shown → Type 0

@@ -8,7 +8,8 @@ use Rattle.cells.specs.declared.hall.Cell.{Cell}
 use Rattle.cells.specs.declared.boxes.CellBox.{CellBox}
 use Rattle.voxels.specs.declared.found.Found.{Found}
 use Rattle.voxels.specs.declared.strictest.Strictest.{Strictest}
-use Rattle.voxels.specs.Shown.{Shown, Given, if_sealed}
+use Rattle.voxels.specs.Phases.{if_sealed}
+use Rattle.voxels.specs.Shown.{Shown, Given}
 use Rattle.voxels.specs.Finds.{found}
 use Rattle.voxels.specs.Looks.{shows}
 use Rattle.voxels.specs.Shown.{ShowsSealed}

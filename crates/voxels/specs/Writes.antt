@@ -3,7 +3,8 @@ use Rattle.std.specs.Prelude.{◌≡◌, ℕ, ◌*◌, Bool, ◌||◌, List, ◌
 use Rattle.std.specs.List.{flat_map}
 use Rattle.cells.specs.Refusals.{Answer, gives, refuse_if}
 use Rattle.nodes.specs.Format.{bytes_of, node_bytes, read_nodes, values_of, written}
-use Rattle.voxels.specs.Shown.{Shown, Accepted, if_sealed}
+use Rattle.voxels.specs.Phases.{if_sealed}
+use Rattle.voxels.specs.Shown.{Shown, Accepted}
 use Rattle.voxels.specs.Shown.{ShowsSealed}
 
 -- whether a buffer is too short: 50 bytes for each record, and for each word the kind's width

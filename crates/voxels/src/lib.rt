@@ -3,12 +3,14 @@
 #![tactic(auto)]
 
 pub mod cases;
+mod child;
 mod close;
 pub mod found;
 mod judge;
 pub mod map;
 pub mod phase;
 mod plain;
+mod ready;
 mod row;
 pub mod strictest;
 mod sweep;

@@ -6,7 +6,7 @@ use crate::phase::Phase;
 use crate::row::{OpenRow, ROWS};
 
 // The levels, the phase, the last accepted code, and an open row for each level.
-#[derive(Clone, Copy)]
+#[derive(Clone, Copy, PartialEq, Eq, Debug)]
 pub(crate) struct Plain {
     pub(crate) levels: u32,
     pub(crate) phase: Phase,

@@ -4,9 +4,11 @@ ghost use Rattle.voxels.specs.Visiting.{Near, Ready};
 ghost use Rattle.voxels.specs.Sweeps.{Swept, tagged_at};
 ghost use Rattle.voxels.specs.Strict.{Took};
 
-use crate::strictest::{Strictest, take_tag};
+use crate::child::Child;
+use crate::strictest::Strictest;
 use crate::visit::{Visit, child_visit};
 use cells::boxes::CellBox;
+use nodes::node::CHILDREN;
 use nodes::pool::NodePool;
 use tags::kind::RankedKind;
 use tags::store::TagStore;
@@ -15,10 +17,8 @@ use tags::store::TagStore;
 fn take_rank<S: TagStore, K: RankedKind>(store: &S, rank: u64, best: &mut Strictest<K>)
     ensures { Took K.RankedKind.stricter best.old (tagged_at K.TagKind.reading (S.TagStore.words store.now) rank) best.new }
 {
-    if let Some(word) = store.word(rank as usize) {
-        if let Some(tag) = K::read(word) {
-            take_tag(best, tag);
-        }
+    if let Some(tag) = store.word(rank as usize).and_then(|word| K::read(word)) {
+        best.take(tag);
     }
 }
 
@@ -38,8 +38,8 @@ pub(crate) fn sweep<P: NodePool, S: TagStore, K: RankedKind>(
         take_rank(store, visit.rank, best);
         return;
     }
-    for i in 0..8 {
-        if let Some(next) = child_visit(pool, bounds, visit, i) {
+    for i in 0..CHILDREN {
+        if let Some(next) = child_visit(pool, bounds, visit, Child { i }) {
             sweep(pool, store, bounds, next, best);
         }
     }

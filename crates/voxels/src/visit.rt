@@ -1,18 +1,20 @@
 // A visit to a sub-cube, on the way from the root down to the cells of a box.
 ghost use Rattle.std.specs.Prelude.{◌≡◌, ℕ, ◌+◌, ◌-◌, ◌*◌, ◌/◌, ◌%◌, ◌^◌, ◌<◌, ◌≤◌, true, length, IfSome, MatchOption};
-ghost use Rattle.cells.specs.Hall.{levels_fit, cell_fits};
+ghost use Rattle.cells.specs.Hall.{cell_fits};
 ghost use Rattle.cells.specs.Boxes.{box_holds};
 ghost use Rattle.cells.specs.declared.boxes.CellBox.{CellBox};
 ghost use Rattle.voxels.specs.Visiting.{shrunk, shrunk_box, child_place, Near, Ready, Visits, Nothing};
 
-use crate::walk::step_to;
+use crate::child::Child;
+use crate::walk::{root_of, step_to};
 use cells::boxes::CellBox;
 use cells::hall::Cell;
+use cells::levels::Levels;
 use nodes::pool::NodePool;
 
 // A sub-cube by its level and its place, counted along each axis in sub-cubes of its level; its record,
 // and the offsets on the path to it added up.
-#[derive(Clone, Copy)]
+#[derive(Clone, Copy, PartialEq, Eq, Debug)]
 pub(crate) struct Visit {
     pub(crate) level: u32,
     pub(crate) at: Cell,
@@ -21,23 +23,14 @@ pub(crate) struct Visit {
 }
 
 // The visit to the whole hall, or absent where the list has no root.
-pub(crate) fn root_visit<P: NodePool>(pool: &P, levels: u32) -> Option<Visit>
-    requires { levels_fit levels ≡ true }
-    ensures ready { IfSome result (λ visit. Ready (P.NodePool.nodes pool.now) visit × (visit.level ≡ levels)) }
-    ensures visits { (bounds : CellBox) → cell_fits levels bounds.low ≡ true → MatchOption result (Nothing levels (P.NodePool.nodes pool.now) bounds levels 0) (λ visit. Visits levels (P.NodePool.nodes pool.now) bounds 0 visit) }
+pub(crate) fn root_visit<P: NodePool>(pool: &P, levels: Levels) -> Option<Visit>
+    ensures ready { IfSome result (λ visit. Ready (P.NodePool.nodes pool.now) visit × (visit.level ≡ levels.count)) }
+    ensures visits { (bounds : CellBox) → cell_fits levels.count bounds.low ≡ true → MatchOption result (Nothing levels.count (P.NodePool.nodes pool.now) bounds levels.count 0) (λ visit. Visits levels.count (P.NodePool.nodes pool.now) bounds 0 visit) }
 {
-    let count = pool.count();
-    if count == 0 {
-        return None;
-    }
-    let node = count - 1;
-    if u32::from(pool.level_at(node)) != levels {
-        return None;
-    }
-    let at = Cell { x: 0, y: 0, z: 0 };
+    let node = root_of(pool, levels)?;
     Some(Visit {
-        level: levels,
-        at,
+        level: levels.count,
+        at: Cell { x: 0, y: 0, z: 0 },
         node,
         rank: 0,
     })
@@ -65,12 +58,12 @@ fn meets(bounds: &CellBox, k: u32, at: Cell) -> bool
     CellBox { low, high }.holds(at)
 }
 
-// The place of child i, one level below.
-fn child_place(at: Cell, i: u32) -> Cell
-    requires near { Near at }
-    requires child { i < 8 }
-    ensures { result ≡ child_place at i }
+// The place of a child, one level below.
+fn child_place(at: Cell, child: Child) -> Cell
+    requires { Near at }
+    ensures { result ≡ child_place at child.i }
 {
+    let i = child.i as u32;
     Cell {
         x: 2 * at.x + i % 2,
         y: 2 * at.y + i / 2 % 2,
@@ -78,32 +71,29 @@ fn child_place(at: Cell, i: u32) -> Cell
     }
 }
 
-// The visit to child i, or absent where the child has no occupied cell of the box.
+// The visit to a child, or absent where the child has no occupied cell of the box.
 pub(crate) fn child_visit<P: NodePool>(
     pool: &P,
     bounds: &CellBox,
     visit: Visit,
-    i: u32,
+    child: Child,
 ) -> Option<Visit>
     requires ready { Ready (P.NodePool.nodes pool.now) visit }
     requires above { 0 < visit.level }
     requires near { Near bounds.now.high }
-    requires child { i < 8 }
     ensures ready { IfSome result (λ next. Ready (P.NodePool.nodes pool.now) next × (next.level + 1 ≡ visit.level)) }
-    ensures visits { (L s : ℕ) → Visits L (P.NodePool.nodes pool.now) bounds.now s visit → MatchOption result (Nothing L (P.NodePool.nodes pool.now) bounds.now (visit.level - 1) (8 * s + i)) (λ next. Visits L (P.NodePool.nodes pool.now) bounds.now (8 * s + i) next) }
+    ensures visits { (L s : ℕ) → Visits L (P.NodePool.nodes pool.now) bounds.now s visit → MatchOption result (Nothing L (P.NodePool.nodes pool.now) bounds.now (visit.level - 1) (8 * s + child.i)) (λ next. Visits L (P.NodePool.nodes pool.now) bounds.now (8 * s + child.i) next) }
 {
     let level = visit.level - 1;
-    let at = child_place(visit.at, i);
+    let at = child_place(visit.at, child);
     if !meets(bounds, level, at) {
         return None;
     }
-    match step_to(pool, visit.node, level, i) {
-        None => None,
-        Some(taken) => Some(Visit {
-            level,
-            at,
-            node: taken.next,
-            rank: visit.rank + u64::from(taken.offset),
-        }),
-    }
+    let taken = step_to(pool, visit.node, level, child)?;
+    Some(Visit {
+        level,
+        at,
+        node: taken.next,
+        rank: visit.rank + u64::from(taken.offset),
+    })
 }

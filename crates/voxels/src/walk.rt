@@ -1,40 +1,32 @@
 // The walk from the root to a cell.
-ghost use Rattle.std.specs.Prelude.{◌≡◌, ◌+◌, ◌<◌, ◌≤◌, false, length, MatchOption};
-ghost use Rattle.cells.specs.SubCubes.{child};
-ghost use Rattle.dag.specs.Walk.{walk};
-ghost use Rattle.voxels.specs.Finds.{found, Goes, GoesTo, Shut};
+ghost use Rattle.std.specs.Prelude.{◌≡◌, ◌<◌, false, length, MatchOption};
+ghost use Rattle.voxels.specs.Finds.{found, has_root, GoesTo, IsRoot, Shut};
 
+use crate::child::Child;
+use cells::levels::Levels;
 use nodes::pool::NodePool;
 
 // Where a step of a walk leads, and the offset that it adds to the rank.
-#[derive(Clone, Copy)]
+#[derive(Clone, Copy, PartialEq, Eq, Debug)]
 pub(crate) struct StepTo {
     pub(crate) next: usize,
     pub(crate) offset: u32,
 }
 
-// The child, of its sub-cube of level k + 1, that a code lies in.
-fn child_of(k: u32, code: u32) -> u32
-    requires { k < 10 }
-    ensures value { result ≡ child (k + 1) code }
-    ensures below { result < 8 }
-{
-    (code >> (3 * k)) % 8
-}
-
 // One step from record n of level k + 1 to a child, or absent where all of the child is free. On level 1 the step ends at the cell.
-pub(crate) fn step_to<P: NodePool>(pool: &P, n: usize, k: u32, i: u32) -> Option<StepTo>
-    requires { (k < 10) × ((n < length (P.NodePool.nodes pool.now)) × (i < 8)) }
-    ensures { MatchOption result (Shut (P.NodePool.nodes pool.now) k n i) (λ s. GoesTo (P.NodePool.nodes pool.now) k n i s.next s.offset) }
+pub(crate) fn step_to<P: NodePool>(pool: &P, n: usize, k: u32, child: Child) -> Option<StepTo>
+    requires level { k < 10 }
+    requires inside { n < length (P.NodePool.nodes pool.now) }
+    ensures { MatchOption result (Shut (P.NodePool.nodes pool.now) k n child.i) (λ s. GoesTo (P.NodePool.nodes pool.now) k n child.i s.next s.offset) }
 {
-    if (pool.mask_at(n) >> i) % 2 == 0 {
+    if !child.is_in(pool.mask_at(n)) {
         return None;
     }
-    let offset = pool.offset_at(n, i as usize);
+    let offset = pool.offset_at(n, child.i);
     if k == 0 {
         return Some(StepTo { next: n, offset });
     }
-    let next = pool.link_at(n, i as usize) as usize;
+    let next = usize::from(pool.link_at(n, child.i));
     if next >= n {
         return None;
     }
@@ -44,34 +36,22 @@ pub(crate) fn step_to<P: NodePool>(pool: &P, n: usize, k: u32, i: u32) -> Option
     Some(StepTo { next, offset })
 }
 
-// One step from record n of level k + 1, or absent where the code is free. On level 1 the step ends at the cell.
-fn step<P: NodePool>(pool: &P, n: usize, k: u32, code: u32) -> Option<StepTo>
-    requires { (k < 10) × (n < length (P.NodePool.nodes pool.now)) }
-    ensures { MatchOption result (walk (P.NodePool.nodes pool.now) (k + 1) n code ≡ false) (λ s. Goes (P.NodePool.nodes pool.now) k n code s.next s.offset) }
+// The number of the last record, if that has the level of a root.
+pub(crate) fn root_of<P: NodePool>(pool: &P, levels: Levels) -> Option<usize>
+    ensures { MatchOption result (has_root levels.count (P.NodePool.nodes pool.now) ≡ false) (IsRoot levels.count (P.NodePool.nodes pool.now)) }
 {
-    step_to(pool, n, k, child_of(k, code))
+    let root = pool.count().checked_sub(1)?;
+    (u32::from(pool.level_at(root)) == levels.count).then_some(root)
 }
 
 // The rank of a code that the pool's list marks, or absent where the code is free.
-pub(crate) fn rank_of<P: NodePool>(pool: &P, levels: u32, code: u32) -> Option<u64>
-    requires { (1 ≤ levels) × (levels ≤ 10) }
-    ensures { result ≡ found levels (P.NodePool.nodes pool.now) code }
+pub(crate) fn rank_of<P: NodePool>(pool: &P, levels: Levels, code: u32) -> Option<u64>
+    ensures { result ≡ found levels.count (P.NodePool.nodes pool.now) code }
 {
-    let count = pool.count();
-    if count == 0 {
-        return None;
-    }
-    let mut n = count - 1;
-    if u32::from(pool.level_at(n)) != levels {
-        return None;
-    }
-    let mut rank: u64 = 0;
-    let mut k = levels;
-    while k > 0 {
-        k -= 1;
-        let Some(taken) = step(pool, n, k, code) else {
-            return None;
-        };
+    let mut n = root_of(pool, levels)?;
+    let mut rank = 0;
+    for k in (0..levels.count).rev() {
+        let taken = step_to(pool, n, k, Child::of(k, code))?;
         n = taken.next;
         rank += u64::from(taken.offset);
     }

@@ -5,24 +5,8 @@ ghost use Rattle.dag.specs.Rules.{node_at, link_of};
 ghost use Rattle.dag.specs.Sizes.{cells_at, has_child, size};
 ghost use Rattle.dag.specs.Checks.{Countable};
 
+use crate::child::Child;
 use nodes::pool::NodePool;
-
-// Whether a mask has child i.
-pub(super) fn has_child(mask: u8, i: usize) -> bool
-    requires { i < 8 }
-    ensures { result ≡ (bit i mask == 1) }
-{
-    (mask >> i) % 2 == 1
-}
-
-// The last child of a mask that is not 0.
-fn last_child(mask: u8) -> usize
-    requires { 0 < mask }
-    ensures small { result < 8 }
-    ensures highest { (2 ^ result ≤ mask) × (mask < 2 ^ (result + 1)) }
-{
-    7 - mask.leading_zeros() as usize
-}
 
 // The number of cells under record n of level k: those before its last child, and those under that child.
 pub(super) fn size_of<P: NodePool>(pool: &P, k: u32, n: usize) -> u64
@@ -32,24 +16,22 @@ pub(super) fn size_of<P: NodePool>(pool: &P, k: u32, n: usize) -> u64
 {
     let mut total: u64 = 0;
     let mut at = n;
-    let mut left = k;
-    while left > 0 {
-        left -= 1;
-        let last = last_child(pool.mask_at(at));
-        total += u64::from(pool.offset_at(at, last));
-        at = usize::from(pool.link_at(at, last));
+    for _ in 0..k {
+        let last = Child::last_in(pool.mask_at(at));
+        total += u64::from(pool.offset_at(at, last.i));
+        at = usize::from(pool.link_at(at, last.i));
     }
     total + 1
 }
 
-// The number of cells under child i of record n of level k + 1, none where there is no child.
-pub(super) fn cells_in<P: NodePool>(pool: &P, k: u32, n: usize, i: usize) -> u64
-    requires { (k ≤ 10) × ((i < 8) × ((has_child (node_at (P.NodePool.nodes pool.now) n) i ≡ true → Countable (P.NodePool.nodes pool.now) k (link_of (node_at (P.NodePool.nodes pool.now) n) i)))) }
-    ensures is { result ≡ cells_at (P.NodePool.nodes pool.now) k n i }
+// The number of cells under a child of record n of level k + 1, none where there is no child.
+pub(super) fn cells_in<P: NodePool>(pool: &P, k: u32, n: usize, child: Child) -> u64
+    requires { (k ≤ 10) × ((has_child (node_at (P.NodePool.nodes pool.now) n) child.i ≡ true → Countable (P.NodePool.nodes pool.now) k (link_of (node_at (P.NodePool.nodes pool.now) n) child.i))) }
+    ensures is { result ≡ cells_at (P.NodePool.nodes pool.now) k n child.i }
     ensures small { result ≤ 10 * 2 ^ 32 + 1 }
 {
-    if has_child(pool.mask_at(n), i) {
-        size_of(pool, k, usize::from(pool.link_at(n, i)))
+    if child.is_in(pool.mask_at(n)) {
+        size_of(pool, k, usize::from(pool.link_at(n, child.i)))
     } else {
         0
     }

@@ -5,7 +5,7 @@ ghost use Rattle.dag.specs.Meets.{meet};
 ghost use Rattle.dag.specs.Checks.{Here, LinksDown};
 ghost use Rattle.voxels.specs.Judges.{Met};
 
-use crate::judge::count::has_child;
+use crate::child::Child;
 use nodes::node::CHILDREN;
 use nodes::pool::NodePool;
 
@@ -14,7 +14,7 @@ fn met_with(n: usize, met: usize) -> Option<usize>
     requires { n < none }
     ensures { MatchOption result (n ≢ met) (λ m. (n ≡ met) × (m ≡ n + 1)) }
 {
-    if n == met { Some(n + 1) } else { None }
+    (n == met).then_some(n + 1)
 }
 
 // How many records have been met after record n of level k was gone into, where the first `before` were met before it.
@@ -31,7 +31,7 @@ pub(super) fn met_after<P: NodePool>(pool: &P, k: u32, n: usize, before: usize) 
     }
     let mut met = before;
     for i in 0..CHILDREN {
-        if has_child(pool.mask_at(n), i) {
+        if (Child { i }).is_in(pool.mask_at(n)) {
             met = met_after(pool, k - 1, usize::from(pool.link_at(n, i)), met)?;
         }
     }

@@ -6,7 +6,9 @@ ghost use Rattle.dag.specs.Sizes.{size_before};
 ghost use Rattle.dag.specs.Judged.{NodePasses};
 ghost use Rattle.dag.specs.Checks.{ChildRight, LinkRight, PassTo};
 
-use crate::judge::count::{cells_in, has_child};
+use crate::child::Child;
+use crate::judge::count::cells_in;
+use cells::levels::Levels;
 use nodes::node::{CHILDREN, NONE, Node};
 use nodes::pool::NodePool;
 use nodes::tail::find;
@@ -22,14 +24,14 @@ fn link_fits<P: NodePool>(pool: &P, k: u32, n: usize, link: u16) -> bool
     to < n && u32::from(pool.level_at(to)) == k
 }
 
-// Whether link and offset i of record n of level k + 1 are right, where so many cells are under the children before.
-fn child_fits<P: NodePool>(pool: &P, k: u32, n: usize, i: usize, before: u64) -> bool
-    requires { (i < 8) × (before ≡ size_before (P.NodePool.nodes pool.now) k n i) }
-    ensures { Decides result (ChildRight (P.NodePool.nodes pool.now) k n i) }
+// Whether link and offset of a child of record n of level k + 1 are right, where so many cells are under the children before.
+fn child_fits<P: NodePool>(pool: &P, k: u32, n: usize, child: Child, before: u64) -> bool
+    requires { before ≡ size_before (P.NodePool.nodes pool.now) k n child.i }
+    ensures { Decides result (ChildRight (P.NodePool.nodes pool.now) k n child.i) }
 {
-    let link = pool.link_at(n, i);
-    let offset = u64::from(pool.offset_at(n, i));
-    if has_child(pool.mask_at(n), i) {
+    let link = pool.link_at(n, child.i);
+    let offset = u64::from(pool.offset_at(n, child.i));
+    if child.is_in(pool.mask_at(n)) {
         offset == before && link_fits(pool, k, n, link)
     } else {
         offset == 0 && link == NONE
@@ -43,10 +45,11 @@ fn children_fit<P: NodePool>(pool: &P, k: u32, n: usize) -> bool
 {
     let mut before = 0;
     for i in 0..CHILDREN {
-        if !child_fits(pool, k, n, i, before) {
+        let child = Child { i };
+        if !child_fits(pool, k, n, child, before) {
             return false;
         }
-        before += cells_in(pool, k, n, i);
+        before += cells_in(pool, k, n, child);
     }
     true
 }
@@ -58,27 +61,17 @@ fn shaped(mask: u8, links: &[u16; CHILDREN], offsets: &[u32; CHILDREN])
     ensures offsets { length offsets.now ≡ children }
 {}
 
-// The lowest number of an equal record in the pool, or the count where there is none.
-fn lowest_number<P: NodePool>(pool: &P, node: &Node) -> usize
-    ensures { result ≡ lowest (P.NodePool.nodes pool.now) node.now }
-{
-    match find(pool, node, 0) {
-        Some(number) => number,
-        None => pool.count(),
-    }
-}
-
-// Whether no record below n equals the record.
+// Whether n is the lowest number of a record that equals the record, the count where there is none.
 fn stands_alone<P: NodePool>(pool: &P, node: &Node, n: usize) -> bool
     ensures { Decides result (lowest (P.NodePool.nodes pool.now) node.now ≡ n) }
 {
-    lowest_number(pool, node) == n
+    find(pool, node, 0).unwrap_or(pool.count()) == n
 }
 
 // Whether record n is right, where the records before it are: its level and its mask, its links and offsets, and no lower record equals it.
-fn record_fits<P: NodePool>(pool: &P, levels: u32, n: usize) -> bool
-    requires { (levels ≤ 10) × ((n < length (P.NodePool.nodes pool.now)) × (PassTo levels (P.NodePool.nodes pool.now) n)) }
-    ensures { Decides result (NodePasses levels (P.NodePool.nodes pool.now) n) }
+fn record_fits<P: NodePool>(pool: &P, levels: Levels, n: usize) -> bool
+    requires { (n < length (P.NodePool.nodes pool.now)) × (PassTo levels.count (P.NodePool.nodes pool.now) n) }
+    ensures { Decides result (NodePasses levels.count (P.NodePool.nodes pool.now) n) }
 {
     let node = pool.read(n);
     shaped(node.mask, &node.links, &node.offsets);
@@ -86,7 +79,7 @@ fn record_fits<P: NodePool>(pool: &P, levels: u32, n: usize) -> bool
     if level == 0 {
         return false;
     }
-    if level > levels {
+    if level > levels.count {
         return false;
     }
     if node.mask == 0 {
@@ -99,9 +92,8 @@ fn record_fits<P: NodePool>(pool: &P, levels: u32, n: usize) -> bool
 }
 
 // Whether all records are right.
-pub(super) fn all_fit<P: NodePool>(pool: &P, levels: u32) -> bool
-    requires { levels ≤ 10 }
-    ensures { Decides result (PassTo levels (P.NodePool.nodes pool.now) (length (P.NodePool.nodes pool.now))) }
+pub(super) fn all_fit<P: NodePool>(pool: &P, levels: Levels) -> bool
+    ensures { Decides result (PassTo levels.count (P.NodePool.nodes pool.now) (length (P.NodePool.nodes pool.now))) }
 {
     for n in 0..pool.count() {
         if !record_fits(pool, levels, n) {

@@ -2,7 +2,7 @@
 ghost use Rattle.std.specs.Prelude.{◌≡◌, None, Decides};
 ghost use Rattle.dag.specs.Delivered.{marked};
 ghost use Rattle.voxels.specs.Adopts.{AllTags, TakesSealed, Verdict, tags_of};
-ghost use Rattle.voxels.specs.Phases.{void_by};
+ghost use Rattle.voxels.specs.Phases.{refused_by, void_by};
 ghost use Rattle.voxels.specs.Shown.{shown};
 ghost use Rattle.voxels.specs.Shown.{ShowsSealed};
 
@@ -10,11 +10,9 @@ use crate::judge::cells_of;
 use crate::map::Map;
 use crate::phase::Phase;
 use crate::plain::Plain;
-use crate::row::empty_rows;
-use cells::hall::check_levels;
+use cells::levels::Levels;
 use cells::refusal::Refusal;
 use nodes::pool::NodePool;
-use std::marker::PhantomData;
 use tags::kind::TagKind;
 use tags::store::TagStore;
 
@@ -23,35 +21,19 @@ impl<P: NodePool, S: TagStore, K: TagKind> Map<P, S, K> {
     fn all_tags(store: &S) -> bool
         ensures { Decides result (AllTags K.TagKind.reading (S.TagStore.words store.now)) }
     {
-        for n in 0..store.count() {
-            let Some(word) = store.word(n) else {
-                return false;
-            };
-            if K::read(word).is_none() {
-                return false;
-            }
-        }
-        true
+        (0..store.count()).all(|n| store.word(n).and_then(|word| K::read(word)).is_some())
     }
 
-    // The phase of a delivered map: sealed, or void by the first number that holds.
-    fn verdict(levels: u32, pool: &P, store: &S) -> Phase
-        ensures reason { Verdict K.TagKind.reading levels (P.NodePool.nodes pool.now) (S.TagStore.words store.now) (void_by result) }
-        ensures taken { void_by result ≡ None → result ≡ Phase.Sealed }
+    // What makes a delivered map void, by the first number that holds.
+    fn judged(levels: u32, pool: &P, store: &S) -> Result<(), Refusal>
+        ensures { Verdict K.TagKind.reading levels (P.NodePool.nodes pool.now) (S.TagStore.words store.now) (refused_by result) }
     {
-        if let Err(refusal) = check_levels(levels) {
-            return Phase::Void(refusal);
+        let levels = Levels::try_from(levels)?;
+        let cells = cells_of(pool, levels).ok_or(Refusal::NotSealed)?;
+        if store.count() as u64 != cells || !Self::all_tags(store) {
+            return Err(Refusal::TagsUnfit);
         }
-        let Some(cells) = cells_of(pool, levels) else {
-            return Phase::Void(Refusal::NotSealed);
-        };
-        if store.count() as u64 != cells {
-            return Phase::Void(Refusal::TagsUnfit);
-        }
-        if !Self::all_tags(store) {
-            return Phase::Void(Refusal::TagsUnfit);
-        }
-        Phase::Sealed
+        Ok(())
     }
 
     // A map over a pool and a store as they were filled. It is sealed if some set of cells seals to the pool's list
@@ -62,19 +44,10 @@ impl<P: NodePool, S: TagStore, K: TagKind> Map<P, S, K> {
         ensures stands { void_by result.plain.phase ≡ None → ShowsSealed K.TagKind.word_of levels (marked levels (P.NodePool.nodes pool)) (tags_of K.TagKind.reading (S.TagStore.words store)) (shown P.NodePool S.TagStore result) }
         ensures taken { TakesSealed K.TagKind.word_of levels (P.NodePool.nodes pool) (S.TagStore.words store) (shown P.NodePool S.TagStore result) }
     {
-        let phase = Self::verdict(levels, &pool, &store);
-        let rows = empty_rows();
-        let plain = Plain {
-            levels,
-            phase,
-            last: None,
-            rows,
+        let phase = match Self::judged(levels, &pool, &store) {
+            Ok(()) => Phase::Sealed,
+            Err(refusal) => Phase::Void(refusal),
         };
-        Map {
-            pool,
-            store,
-            plain,
-            kind: PhantomData,
-        }
+        Map::over(pool, store, Plain::in_phase(levels, phase))
     }
 }

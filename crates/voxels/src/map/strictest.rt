@@ -1,18 +1,18 @@
 // The strictest tag in a box.
 ghost use Rattle.std.specs.Prelude.{◌≡◌, true};
 ghost use Rattle.cells.specs.Refusals.{answer};
-ghost use Rattle.cells.specs.Hall.{levels_fit, cell_fits};
+ghost use Rattle.cells.specs.Hall.{cell_fits};
 ghost use Rattle.voxels.specs.Shown.{shown};
 ghost use Rattle.voxels.specs.Strict.{IsStrictest, StrictestTells, strictest_answer, summary, tags_over};
 ghost use Rattle.voxels.specs.Sweeps.{look_at};
 
 use super::Map;
-use crate::phase::Phase;
 use crate::strictest::Strictest;
 use crate::sweep::sweep;
 use crate::visit::root_visit;
-use cells::boxes::{CellBox, box_of};
+use cells::boxes::CellBox;
 use cells::hall::Cell;
+use cells::levels::Levels;
 use cells::refusal::Refusal;
 use nodes::pool::NodePool;
 use tags::kind::RankedKind;
@@ -20,33 +20,19 @@ use tags::store::TagStore;
 
 impl<P: NodePool, S: TagStore, K: RankedKind> Map<P, S, K> {
     // The number and the strictest tag of the occupied cells of a box of the hall.
-    fn over_box(&self, bounds: &CellBox) -> Strictest<K>
-        requires levels { levels_fit self.now.plain.levels ≡ true }
-        requires low { cell_fits self.now.plain.levels bounds.now.low ≡ true }
-        requires high { cell_fits self.now.plain.levels bounds.now.high ≡ true }
-        ensures { result ≡ summary K.RankedKind.stricter (tags_over self.now.plain.levels bounds.now (look_at K.TagKind.reading self.now.plain.levels (P.NodePool.nodes self.now.pool) (S.TagStore.words self.now.store))) }
+    fn over_box(&self, levels: Levels, bounds: &CellBox) -> Strictest<K>
+        requires low { cell_fits levels.count bounds.now.low ≡ true }
+        requires high { cell_fits levels.count bounds.now.high ≡ true }
+        ensures { result ≡ summary K.RankedKind.stricter (tags_over levels.count bounds.now (look_at K.TagKind.reading levels.count (P.NodePool.nodes self.now.pool) (S.TagStore.words self.now.store))) }
     {
         let mut best = Strictest {
             cells: 0,
             tag: None,
         };
-        if let Some(root) = root_visit(&self.pool, self.plain.levels) {
+        if let Some(root) = root_visit(&self.pool, levels) {
             sweep(&self.pool, &self.store, bounds, root, &mut best);
         }
         best
-    }
-
-    // The number and the strictest tag of the occupied cells of a box of a sealed map.
-    fn strictest_sealed(&self, low: Cell, high: Cell) -> Result<Strictest<K>, Refusal>
-        requires { self.now.plain.phase ≡ Phase.Sealed }
-        ensures looks { answer result ≡ strictest_answer K.TagKind.reading K.RankedKind.stricter (shown P.NodePool S.TagStore self.now) low high }
-        ensures strictest { IsStrictest K.TagKind.reading K.RankedKind.stricter (shown P.NodePool S.TagStore self.now) low high (answer result) }
-        ensures tells { StrictestTells K.TagKind.word_of K.RankedKind.stricter low high (shown P.NodePool S.TagStore self.now) (answer result) }
-    {
-        match box_of(self.plain.levels, low, high) {
-            Ok(bounds) => Ok(self.over_box(&bounds)),
-            Err(refusal) => Err(refusal),
-        }
     }
 
     // The number and the strictest tag of the occupied cells of a box, both corners inside it.
@@ -55,10 +41,8 @@ impl<P: NodePool, S: TagStore, K: RankedKind> Map<P, S, K> {
         ensures strictest { IsStrictest K.TagKind.reading K.RankedKind.stricter (shown P.NodePool S.TagStore self.now) low high (answer result) }
         ensures tells { StrictestTells K.TagKind.word_of K.RankedKind.stricter low high (shown P.NodePool S.TagStore self.now) (answer result) }
     {
-        match self.plain.phase {
-            Phase::Void(refusal) => Err(refusal),
-            Phase::Open => Err(Refusal::State),
-            Phase::Sealed => self.strictest_sealed(low, high),
-        }
+        let levels = self.plain.sealed()?;
+        let bounds = levels.box_of(low, high)?;
+        Ok(self.over_box(levels, &bounds))
     }
 }

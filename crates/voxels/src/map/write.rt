@@ -5,7 +5,6 @@ ghost use Rattle.voxels.specs.Shown.{shown, Accepted, Refused};
 ghost use Rattle.voxels.specs.Writes.{NodesBack, WordsBack, nodes_written, too_short, words_written, write_answer};
 
 use super::Map;
-use crate::phase::Phase;
 use crate::write::{write_nodes, write_words};
 use cells::refusal::Refusal;
 use nodes::node::NODE_BYTES;
@@ -23,24 +22,6 @@ impl<P: NodePool, S: TagStore, K: TagKind> Map<P, S, K> {
         nodes.len() < records || tags.len() < words
     }
 
-    // Writes a sealed map.
-    fn write_sealed(&self, nodes: &mut [u8], tags: &mut [u8]) -> Result<(), Refusal>
-        requires { self.now.plain.phase ≡ Phase.Sealed }
-        ensures answers { answer result ≡ write_answer (shown P.NodePool S.TagStore self.now) K.TagKind.width nodes.old tags.old }
-        ensures kept { Refused (answer result) ((nodes.new ≡ nodes.old) × (tags.new ≡ tags.old)) }
-        ensures nodes { Accepted (answer result) (nodes.new ≡ nodes_written (shown P.NodePool S.TagStore self.now) nodes.old) }
-        ensures tags { Accepted (answer result) (tags.new ≡ words_written (shown P.NodePool S.TagStore self.now) K.TagKind.width tags.old) }
-        ensures back { Accepted (answer result) (NodesBack (shown P.NodePool S.TagStore self.now) nodes.new) }
-        ensures tells { WordsBack K.TagKind.word_of K.TagKind.width (shown P.NodePool S.TagStore self.now) tags.new (answer result) }
-    {
-        if self.outgrows(nodes, tags) {
-            return Err(Refusal::BufferShort);
-        }
-        write_nodes(&self.pool, nodes);
-        write_words(&self.store, K::written_width(), tags);
-        Ok(())
-    }
-
     // Writes the records into the first buffer and the words into the second. What lies behind them stays.
     pub fn write(&self, nodes: &mut [u8], tags: &mut [u8]) -> Result<(), Refusal>
         ensures answers { answer result ≡ write_answer (shown P.NodePool S.TagStore self.now) K.TagKind.width nodes.old tags.old }
@@ -50,10 +31,12 @@ impl<P: NodePool, S: TagStore, K: TagKind> Map<P, S, K> {
         ensures back { Accepted (answer result) (NodesBack (shown P.NodePool S.TagStore self.now) nodes.new) }
         ensures tells { WordsBack K.TagKind.word_of K.TagKind.width (shown P.NodePool S.TagStore self.now) tags.new (answer result) }
     {
-        match self.plain.phase {
-            Phase::Void(refusal) => Err(refusal),
-            Phase::Open => Err(Refusal::State),
-            Phase::Sealed => self.write_sealed(nodes, tags),
+        self.plain.sealed()?;
+        if self.outgrows(nodes, tags) {
+            return Err(Refusal::BufferShort);
         }
+        write_nodes(&self.pool, nodes);
+        write_words(&self.store, K::written_width(), tags);
+        Ok(())
     }
 }

@@ -1,8 +1,5 @@
 use Rattle.std.proofs.Common.{sym, refl, subst, arith}
 use Rattle.std.proofs.lemmas.Result.{err_from_is_err_and}
-use Rattle.dag.specs.Sealed.{Begins}
-use Rattle.dag.proofs.Growth.{begins_self, written_begins}
-use Rattle.voxels.specs.Stages.{row_at}
 use Rattle.voxels.proofs.Closing.{stage_next, stage_refused, top_moves, parent_moves}
 use Rattle.voxels.proofs.close.close_level.Goals as goal
 
@@ -13,16 +10,13 @@ returns-in_err-number g c =
     let told = c.in_err-number.ensures in
     rw (p.1, p.2)
     record {
-      list = subst (Begins ns) (sym told.answers.1) (begins_self ns);
-      fixed = told.fixed;
-      untouched = told.untouched;
-      kept = told.kept;
+      grown = told.grown;
       steps = (
         told.answers.0,
         told.answers.1,
         refl,
-        λ cells at. stage_refused c.args.levels cells c.args.last c.args.r (g.P.NodePool.capacity c.args.pool.now) ns c.args.rows.now
-            c.requires.0 told.answers.2 told.answers.3 at,
+        λ cells at. stage_refused c.args.levels.count cells c.args.last c.args.r (g.P.NodePool.capacity c.args.pool.now) ns c.args.rows.now
+            c.requires told.answers.2 told.answers.3 at,
       );
     }
 
@@ -31,15 +25,12 @@ returns-then-r-levels g c =
     let ns = g.P.NodePool.nodes c.args.pool.now in
     let told = c.in_ok-number.ensures in
     record {
-      list = subst (Begins ns) (sym told.answers.1) (written_begins ns (row_at c.args.rows.now c.args.r).node);
-      fixed = told.fixed;
-      untouched = told.untouched;
-      kept = told.kept;
-      steps = λ cells at. stage_next c.args.levels cells c.args.last c.args.r c.in_ok-number.number ns _ c.args.rows.now _
-          c.requires.0 told.answers.0 told.answers.1
-          (parent_moves c.args.levels c.args.last c.args.r c.in_ok-number.number c.args.rows.now c.empty.result
+      grown = told.grown;
+      steps = λ cells at. stage_next c.args.levels.count cells c.args.last c.args.r c.in_ok-number.number ns _ c.args.rows.now _
+          c.requires told.answers.0 told.answers.1
+          (parent_moves c.args.levels.count c.args.last c.args.r c.in_ok-number.number c.args.rows.now c.empty.result
           (omega arith) (c.empty.ensures.node c.args.r refl) c.empty.ensures.count
-          c.take_child.new.self c.place_of-child.result (omega arith) c.place_of-child.ensures
+          c.take_child.new.self c.of.result.i (omega arith) c.of.ensures
           c.take_child.ensures.node c.take_child.ensures.count)
           at;
     }
@@ -49,13 +40,10 @@ returns-else-r-levels g c =
     let ns = g.P.NodePool.nodes c.args.pool.now in
     let told = c.in_ok-number.ensures in
     record {
-      list = subst (Begins ns) (sym told.answers.1) (written_begins ns (row_at c.args.rows.now c.args.r).node);
-      fixed = told.fixed;
-      untouched = told.untouched;
-      kept = told.kept;
-      steps = λ cells at. stage_next c.args.levels cells c.args.last c.args.r c.in_ok-number.number ns _ c.args.rows.now _
-          c.requires.0 told.answers.0 told.answers.1
-          (top_moves c.args.levels c.args.last c.args.r c.in_ok-number.number c.args.rows.now c.empty.result
+      grown = told.grown;
+      steps = λ cells at. stage_next c.args.levels.count cells c.args.last c.args.r c.in_ok-number.number ns _ c.args.rows.now _
+          c.requires told.answers.0 told.answers.1
+          (top_moves c.args.levels.count c.args.last c.args.r c.in_ok-number.number c.args.rows.now c.empty.result
           (omega arith) (c.empty.ensures.node c.args.r refl) c.empty.ensures.count c.if-r-levels.false)
           at;
     }

@@ -1,6 +1,7 @@
-use Rattle.std.proofs.Common.{refl, arith}
+use Rattle.std.proofs.Common.{arith}
 use Rattle.std.proofs.lemmas.Result.{err_from_is_err_and}
 use Rattle.voxels.proofs.Numbering.{found_inside, found_lowest, found_written, absent_new, added_numbered, refused_full}
+use Rattle.voxels.proofs.Growing.{grown_self, grows}
 use Rattle.voxels.proofs.close.number_of.Goals as goal
 
 pub overflow_cast-result : goal.overflow_cast-result
@@ -17,9 +18,7 @@ returns-in-Some g c =
     let node = c.args.node.now in
     record {
       answers = (found_lowest ns node c.in-Some.number c.in-Some.ensures, found_written ns node c.in-Some.number c.in-Some.ensures);
-      fixed = refl;
-      untouched = refl;
-      kept = refl;
+      grown = grown_self g.P.NodePool c.args.pool.now;
     }
 
 pub returns-in_err-number : goal.returns-in_err-number
@@ -31,9 +30,7 @@ returns-in_err-number g c =
     rw (p.1, p.2)
     record {
       answers = refused_full ns node (absent_new ns node c.in_default.ensures) (g.P.NodePool.capacity c.args.pool.now) _ (g.P.NodePool.nodes c.add.new.self) told.list told.answers;
-      fixed = told.fixed;
-      untouched = told.untouched;
-      kept = told.kept;
+      grown = record { list = grows ns (g.P.NodePool.capacity c.args.pool.now) node (g.P.NodePool.nodes c.add.new.self) told.list; fixed = told.fixed; untouched = told.untouched; kept = told.kept };
     }
 
 pub returns : goal.returns
@@ -43,7 +40,5 @@ returns g c =
     let told = c.in_ok-number.ensures in
     record {
       answers = added_numbered ns node (absent_new ns node c.in_default.ensures) (g.P.NodePool.capacity c.args.pool.now) c.in_ok-number.number (g.P.NodePool.nodes c.add.new.self) told.list told.answers;
-      fixed = told.fixed;
-      untouched = told.untouched;
-      kept = told.kept;
+      grown = record { list = grows ns (g.P.NodePool.capacity c.args.pool.now) node (g.P.NodePool.nodes c.add.new.self) told.list; fixed = told.fixed; untouched = told.untouched; kept = told.kept };
     }

@@ -3,4 +3,4 @@ use Rattle.cells.proofs.Codes.{eight}
 use Rattle.voxels.proofs.close.sub_cube.Goals as goal
 
 pub returns : goal.returns
-returns c = ap (λ n. c.args.code / n) (eight c.args.level)
+returns c = ap (λ n. c.args.code / n) (eight c.args.k)

@@ -7,7 +7,7 @@ use Rattle.dag.specs.Checks.{Here}
 use Rattle.dag.proofs.Turns.{met_cell, kids_none, kids_there, kids_absent, met_before, kid_here, here_inside, left_failed}
 use Rattle.voxels.proofs.Judges.{left_by}
 use Rattle.voxels.proofs.judge.order.+met_after.Goals as goal
-use Rattle.voxels.proofs.judge.order.+met_after.Goals.{then-has_child+in_ok-met, else-has_child}
+use Rattle.voxels.proofs.judge.order.+met_after.Goals.{then-is_in+in_ok-met, else-is_in}
 
 pub returns-then-k-eq0 : goal.returns-then-k-eq0
 returns-then-k-eq0 g t c =
@@ -25,7 +25,7 @@ met_after-requires g t c κs within =
     let ns = g.P.NodePool.nodes c.args.pool.now in
     let n = c.args.n in
     let i = c.loop-i.i in
-    let set : has_child (node_at ns n) i ≡ true = ap (λ m. eqb (bit i m) 1) (sym c.mask_at.ensures) ∙ sym c.has_child.ensures ∙ c.if-has_child.true in
+    let set : has_child (node_at ns n) i ≡ true = ap (λ m. eqb (bit i m) 1) (sym c.mask_at.ensures) ∙ sym c.is_in.ensures ∙ c.if-is_in.true in
     let link : link_of (node_at ns n) i ≡ c.from.result = sym (c.from.ensures ∙ c.link_at.ensures) in (
       omega arith,
       (
@@ -43,7 +43,7 @@ returns-in_err-met g t c =
     let n = c.args.n in
     let i = c.loop-i.i in
     let q = c.args.k - 1 in
-    let set : has_child (node_at ns n) i ≡ true = ap (λ m. eqb (bit i m) 1) (sym c.mask_at.ensures) ∙ sym c.has_child.ensures ∙ c.if-has_child.true in
+    let set : has_child (node_at ns n) i ≡ true = ap (λ m. eqb (bit i m) 1) (sym c.mask_at.ensures) ∙ sym c.is_in.ensures ∙ c.if-is_in.true in
     let link : c.from.result ≡ link_of (node_at ns n) i = c.from.ensures ∙ c.link_at.ensures in
     let fail : length ns < meet ns q (link_of (node_at ns n) i) (meet_children ns q n i c.args.before) =
     subst (λ m. length ns < meet ns q (link_of (node_at ns n) i) m) c.loop-i.invariant.0 (subst (λ l. length ns < meet ns q l c.loop-i.met) link c.in_err-met.ensures) in
@@ -56,16 +56,16 @@ loop-i-preserved g t c =
     let n = c.args.n in
     let i = c.loop-i.i in
     let q = c.args.k - 1 in
-    let bits = ap (λ m. eqb (bit i m) 1) (sym c.mask_at.ensures) ∙ sym c.has_child.ensures in
-    elim c.if-has_child.branch [
-      | then-has_child+in_ok-met w ↦
+    let bits = ap (λ m. eqb (bit i m) 1) (sym c.mask_at.ensures) ∙ sym c.is_in.ensures in
+    elim c.if-is_in.branch [
+      | then-is_in+in_ok-met w ↦
           let told = w.in_ok-met.ensures in
           let link : w.from.result ≡ link_of (node_at ns n) i = w.from.ensures ∙ w.link_at.ensures in (
-            w.met-is ∙ told.0 ∙ ap₂ (meet ns q) link c.loop-i.invariant.0 ∙ sym (kids_there ns q n i c.args.before (bits ∙ w.if-has_child.true)),
+            w.met-is ∙ told.0 ∙ ap₂ (meet ns q) link c.loop-i.invariant.0 ∙ sym (kids_there ns q n i c.args.before (bits ∙ w.if-is_in.true)),
             subst (λ m. m ≤ length ns) (sym w.met-is) told.1,
           )
-      | else-has_child w ↦
-          (w.met-is ∙ c.loop-i.invariant.0 ∙ sym (kids_absent ns q n i c.args.before (bits ∙ w.if-has_child.false)), subst (λ m. m ≤ length ns) (sym w.met-is) c.loop-i.invariant.1)
+      | else-is_in w ↦
+          (w.met-is ∙ c.loop-i.invariant.0 ∙ sym (kids_absent ns q n i c.args.before (bits ∙ w.if-is_in.false)), subst (λ m. m ≤ length ns) (sym w.met-is) c.loop-i.invariant.1)
     ]
 
 pub met_with-requires : goal.met_with-requires

@@ -5,4 +5,4 @@ use Rattle.voxels.proofs.judge.records.all_fit.Goals as goal
 pub loop-n-preserved : goal.loop-n-preserved
 loop-n-preserved g c =
     let ns = g.P.NodePool.nodes c.args.pool.now in
-    below_more (NodePasses c.args.levels ns) c.loop-n.n c.loop-n.invariant (c.record_fits.ensures.0 c.if-not-record_fits.false)
+    below_more (NodePasses c.args.levels.count ns) c.loop-n.n c.loop-n.invariant (c.record_fits.ensures.0 c.if-not-record_fits.false)

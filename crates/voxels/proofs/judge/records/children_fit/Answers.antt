@@ -14,7 +14,7 @@ pub cells_in-before-requires : goal.cells_in-before-requires
 cells_in-before-requires g c =
     let ns = g.P.NodePool.nodes c.args.pool.now in
     let right = c.child_fits.ensures.0 c.if-not-child_fits.false in
-    (c.requires.0, (c.loop-i-test.true, λ t. child_countable c.requires.1.1.0 ns c.args.k c.args.n _ c.requires.1.0 c.requires.1.1.1 (right.there t)))
+    (c.requires.0, λ t. child_countable c.requires.1.1.0 ns c.args.k c.args.n _ c.requires.1.0 c.requires.1.1.1 (right.there t))
 
 pub loop-i-preserved : goal.loop-i-preserved
 loop-i-preserved g c =

@@ -11,8 +11,8 @@ returns g c =
     let node = c.read-node.result in
     let shape = c.shaped.ensures in
     let n = c.args.n in (
-      (λ t. fits_from c.args.levels ns few n c.requires.1.0 node c.read-node.ensures c.from-level.result c.from-level.ensures c.if-level-eq0.false
+      (λ t. fits_from c.args.levels.count ns few n c.requires.0 node c.read-node.ensures c.from-level.result c.from-level.ensures c.if-level-eq0.false
           shape.mask shape.links shape.offsets c.if-level-levels.false c.if-node-eq0.false (c.children_fit.ensures.0 c.if-not-children_fit.false)
           (sym (c.stands_alone.ensures.0 t))),
-      (λ p. c.stands_alone.ensures.1 (sym (lowest_from c.args.levels ns few n c.requires.1.0 node c.read-node.ensures c.from-level.result c.from-level.ensures c.if-level-eq0.false p))),
+      (λ p. c.stands_alone.ensures.1 (sym (lowest_from c.args.levels.count ns few n c.requires.0 node c.read-node.ensures c.from-level.result c.from-level.ensures c.if-level-eq0.false p))),
     )

@@ -4,6 +4,6 @@ use Rattle.voxels.proofs.row.OpenRow.take_child.Goals as goal
 
 pub returns : goal.returns
 returns c = record {
-  node = λ h. child_taken c.args.self.now.node _ c.args.child c.args.link c.args.self.now.count refl (c.with_bit-self.ensures h) refl refl;
+  node = λ h. child_taken c.args.self.now.node _ c.args.child.i c.args.link c.args.self.now.count refl (c.above-self.ensures h) refl refl;
   count = c.saturating_add-self.ensures;
 }
