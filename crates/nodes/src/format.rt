@@ -29,11 +29,11 @@ pub fn write_number(bytes: &mut [u8], number: u32)
     }
 }
 
-// A link or an offset: a number that takes so many bytes of a written record.
+// A link or an offset: a number in a record.
 pub(crate) trait Field: Copy + Default {
+    // How many bytes it is written in.
     const WIDTH: usize;
 
-    // how many bytes it takes
     ghost WIDTH: { ℕ };
 
     // the number that it is
