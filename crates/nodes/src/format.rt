@@ -19,6 +19,7 @@ pub(crate) const LINKS_AT: usize = 2;
 pub(crate) const OFFSETS_AT: usize = LINKS_AT + LINK_BYTES * CHILDREN;
 
 // Writes a number over any bytes, low byte first. What does not fit them is left out.
+#[tactic(auto, using(crate::proofs::LowFirst::bytes_more), unfolding(crate::specs::Format::bytes_of))]
 pub fn write_number(bytes: &mut [u8], number: u32)
     ensures { bytes.new ≡ bytes_of (length bytes.old) number }
 {
