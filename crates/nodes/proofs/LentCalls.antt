@@ -1,5 +1,5 @@
 -- The memory of a pool in lent places, after each call.
-use Rattle.std.proofs.Common.{◌≡◌, ℕ, zero, suc, ◌+◌, ◌-◌, ◌*◌, ◌<◌, ◌≤◌, List, [], ◌∷◌, ◌++◌, length, get_or, take, drop, sym, refl, ap, ◌∙◌, subst, mul-zero, mul-suc, add-one, arith}
+use Rattle.std.proofs.Common.{◌≡◌, ℕ, zero, suc, ◌+◌, ◌-◌, ◌*◌, ◌<◌, ◌≤◌, List, [], ◌∷◌, ◌++◌, length, get_or, take, drop, sym, ap, ◌∙◌, subst, mul-zero, mul-suc, add-one, arith}
 use Rattle.std.proofs.lemmas.List.{length-append, length-take, length-take-le, length-drop, nil_from_length, take_all, take_at, drop_at, take-take, take-append-le, get_or-take}
 use borrow.Rule.Slice.PartMut.{put_mid}
 use Rattle.std.proofs.Math.Seq.{get_or-append_seam}
@@ -10,7 +10,7 @@ use Rattle.nodes.specs.Records.{blank}
 use Rattle.nodes.specs.Pools.{capped, front}
 use Rattle.nodes.specs.Memory.{laid}
 use Rattle.nodes.specs.LentPools.{span_inside}
-use Rattle.nodes.proofs.Blanks.{InOrder, Leaves, over, put, made, cut_back, put_on, put_part}
+use Rattle.nodes.proofs.Blanks.{InOrder, over, length_laid, take_laid, drop_laid, made, cut_back, put_on, put_part}
 
 module _ {X : Type 0} (place : PlaceMeaning X) where
   -- the capacity of so many places
@@ -76,52 +76,57 @@ module _ {X : Type 0} (place : PlaceMeaning X) where
     pub list_is : place.nodes_in count m' ≡ list
     pub behind : drop (place.span (room (length m'))) m' ≡ drop (place.span (room (length m))) m
 
-  stays : (m m' part : List X) (list : List Node) (count : ℕ) → count ≤ room (length m) → place.nodes_in count part ≡ list → Leaves place.empty m m' part (place.span count) (place.span (room (length m))) → Stays m m' part list count
-  stays m m' part list count le f h =
-      let e : room (length m') ≡ room (length m) = ap room h.long in
-      let in' = span_inside place count (length m) le in
+  stays : (m m' part : List X) (list : List Node) (count : ℕ) → count ≤ room (length m) → length part ≡ place.span count → place.nodes_in count part ≡ list → m' ≡ laid place.empty part (place.span (room (length m))) (drop (place.span (room (length m))) m) → Stays m m' part list count
+  stays m m' part list count le lp f h =
+      let y = place.empty in
+      let p = place.span (room (length m)) in
+      let in' : p ≤ length m = span_inside place (room (length m)) (length m) (omega arith) in
+      let le' : place.span count ≤ p = span_le count (room (length m)) le in
+      let long : length m' ≡ length m = ap length h ∙ length_laid y part (drop p m) p (omega arith) ∙ simp length-drop (omega arith) in
+      let e : room (length m') ≡ room (length m) = ap room long in
+      let front : take (place.span count) m' ≡ part = ap (take (place.span count)) h ∙ take_laid y part (drop p m) (place.span count) p lp in
+      let back : drop p m' ≡ drop p m = ap (drop p) h ∙ drop_laid y part (drop p m) p (omega arith) in
+      let order : InOrder y (place.span count) p m' =
+      h ∙ ap (λ l. laid y l p (drop p m)) (sym front) ∙ ap (laid y (take (place.span count) m') p) (sym back) in
       record {
         fits = e;
         within = omega arith;
-        order = subst (λ p. InOrder place.empty (place.span count) (place.span p) m') (sym e) h.order;
-        front_is = h.list_is;
-        list_is = sym (place.own count m' (omega (arith, h.long))) ∙ ap (place.nodes_in count) h.list_is ∙ f;
-        behind = ap (λ p. drop (place.span p) m') e ∙ h.behind;
+        order = subst (λ r. InOrder y (place.span count) (place.span r) m') (sym e) order;
+        front_is = front;
+        list_is = sym (place.own count m' (omega arith)) ∙ ap (place.nodes_in count) front ∙ f;
+        behind = ap (λ r. drop (place.span r) m') e ∙ back;
       }
 
   pub stays_made : (m m' : List X) (c p : ℕ) → p ≡ room (length m) → c ≤ p → m' ≡ over m (place.span c) (place.span p) place.empty → Stays m m' (take (place.span c) m) (place.nodes_in c m) c
   stays_made m m' c p pe le e =
       let in' = span_inside place c (length m) (omega arith) in
-      let h = made m m' place.empty (place.span c) (place.span p) (span_le c p le) (span_inside place p (length m) (omega arith)) e in
-      stays m m' (take (place.span c) m) (place.nodes_in c m) c (omega arith) (place.own c m in')
-      (subst (λ q. Leaves place.empty m m' (take (place.span c) m) (place.span c) (place.span q)) pe h)
+      stays m m' (take (place.span c) m) (place.nodes_in c m) c (omega arith) (length-take-le (place.span c) m in') (place.own c m in')
+      (e ∙ made place.empty m (place.span c) (place.span p) in' ∙ ap (λ r. laid place.empty (take (place.span c) m) (place.span r) (drop (place.span r) m)) pe)
 
   pub stays_cut : (m m' : List X) (n c : ℕ) → n ≤ c → c ≤ room (length m) → InOrder place.empty (place.span c) (place.span (room (length m))) m → m' ≡ over m (place.span n) (place.span c) place.empty → Stays m m' (take (place.span n) m) (take n (place.nodes_in c m)) n
   stays_cut m m' n c le le' h e =
       let in' = span_inside place c (length m) le' in
       let ln = span_le n c le in
-      stays m m' (take (place.span n) m) (take n (place.nodes_in c m)) n (omega arith) (place.own n m (omega arith) ∙ sym (take_nodes n c m le in'))
-      (cut_back m m' place.empty (place.span n) (place.span c) (place.span (room (length m))) ln (span_le c (room (length m)) le') (span_inside place (room (length m)) (length m) (omega arith)) h e)
+      stays m m' (take (place.span n) m) (take n (place.nodes_in c m)) n (omega arith) (length-take-le (place.span n) m (omega arith)) (place.own n m (omega arith) ∙ sym (take_nodes n c m le in'))
+      (e ∙ cut_back place.empty m (place.span n) (place.span c) (place.span (room (length m))) ln (span_le c (room (length m)) le') in' h)
 
   pub stays_added : (m part : List X) (node : Node) (c w k : ℕ) → w ≡ place.WIDTH → k ≡ place.WIDTH → c < room (length m) → length part ≡ place.WIDTH → place.node_in part ≡ node → InOrder place.empty (place.span c) (place.span (room (length m))) m → Stays m (put_mid (w * c) k m part) (take (place.span c) m ++ part) (place.nodes_in c m ++ node ∷ []) (c + 1)
   stays_added m part node c w k we ke lt lp np h =
       let s = span_more c in
-      let d : place.span (c + 1) ≡ place.span c + length part = omega arith in
       let in' : place.span (c + 1) ≤ length m = span_inside place (c + 1) (length m) (omega arith) in
+      let le : place.span (c + 1) ≤ place.span (room (length m)) = span_le (c + 1) (room (length m)) (omega arith) in
       let lc : length (take (place.span c) m) ≡ place.span c = length-take-le (place.span c) m (omega arith) in
       let whole = take (place.span c) m ++ part in
       let lw : length whole ≡ place.span (c + 1) = length-append (take (place.span c) m) part ∙ omega arith in
-      let t : take (place.span c) whole ≡ take (place.span c) m = take_at (take (place.span c) m) part (place.span c) lc in
-      let b : drop (place.span c) whole ≡ part = drop_at (take (place.span c) m) part (place.span c) lc in
       let list : place.nodes_in c whole ≡ place.nodes_in c m =
-      sym (place.own c whole (omega arith)) ∙ ap (place.nodes_in c) t ∙ place.own c m (omega arith) in
+      sym (place.own c whole (omega arith)) ∙ ap (place.nodes_in c) (take_at (take (place.span c) m) part (place.span c) lc) ∙ place.own c m (omega arith) in
       let last : place.node_in (take place.WIDTH (drop (place.span c) whole)) ≡ node =
-      ap (λ l. place.node_in (take place.WIDTH l)) b ∙ ap place.node_in (take_all place.WIDTH part (omega arith)) ∙ np in
-      let e : put_mid (w * c) k m part ≡ put m (place.span c) part =
-      ap (λ j. put_mid j k m part) (spanned w c we) ∙ put_part m part part (place.span c) k (length part) (omega arith) refl in
-      stays m (put_mid (w * c) k m part) whole (place.nodes_in c m ++ node ∷ []) (c + 1) (omega arith)
+      ap (λ l. place.node_in (take place.WIDTH l)) (drop_at (take (place.span c) m) part (place.span c) lc)
+      ∙ ap place.node_in (take_all place.WIDTH part (omega arith)) ∙ np in
+      stays m (put_mid (w * c) k m part) whole (place.nodes_in c m ++ node ∷ []) (c + 1) (omega arith) lw
       (place.more c whole (omega arith) ∙ ap (λ l. l ++ place.node_in (take place.WIDTH (drop (place.span c) whole)) ∷ []) list ∙ ap (λ x. place.nodes_in c m ++ x ∷ []) last)
-      (put_on m (put_mid (w * c) k m part) place.empty part (place.span c) (place.span (c + 1)) (place.span (room (length m))) d (span_le (c + 1) (room (length m)) (omega arith)) (span_inside place (room (length m)) (length m) (omega arith)) h e)
+      (put_part m part (w * c) (place.span c) k (length part) (spanned w c we) (omega arith)
+      ∙ put_on place.empty m part (place.span c) (place.span (room (length m))) (omega arith) (omega arith) h)
 
   -- the places of the records that were there stay
   pub front_stays : (m m' part : List X) (list : List Node) (c : ℕ) → place.span c ≤ length m → Stays m m' (take (place.span c) m ++ part) list (c + 1) → take (place.span c) m' ≡ take (place.span c) m

@@ -1,7 +1,7 @@
 -- Numbers of several bytes, low byte first: the laws, once for every width.
-use Rattle.std.proofs.Common.{◌≡◌, ℕ, zero, suc, ◌+◌, ◌-◌, ◌*◌, ◌/◌, ◌%◌, ◌^◌, ◌<◌, ◌≤◌, List, [], ◌∷◌, ◌++◌, length, get_or, take, set, sym, refl, ap, ◌∙◌, mul_comm, arith}
+use Rattle.std.proofs.Common.{◌≡◌, ℕ, zero, suc, ◌+◌, ◌-◌, ◌*◌, ◌/◌, ◌%◌, ◌^◌, ◌<◌, ◌≤◌, List, [], ◌∷◌, ◌++◌, length, get_or, take, set, refl, ap, ◌∙◌, mul_comm, arith}
 use native.Mathlib.Nat.{pow-succ', pow-le-pow_right}
-use Rattle.std.proofs.lemmas.List.{append_assoc, append-nil, take_all, take_more_set}
+use Rattle.std.proofs.lemmas.List.{append_assoc, take_more_set}
 use Rattle.std.proofs.lemmas.Nat.{div_below, div-add-mod'}
 use Rattle.std.specs.Int.{w16, w32, from_le_bytes}
 use Rattle.nodes.specs.Format.{Bytes, bytes_of, value_of}
@@ -58,15 +58,9 @@ value_four (a ∷ b ∷ c ∷ []) l = absurd (omega arith)
 value_four (a ∷ b ∷ c ∷ d ∷ []) l = omega arith
 value_four (a ∷ b ∷ c ∷ d ∷ e ∷ bs) l = absurd (omega arith)
 
--- writing from the first byte up: none is written, one more, and all
+-- writing from the first byte up: one more is written
 pub bytes_more : (bs : List ℕ) (w k rest : ℕ) (all : List ℕ) → k < w → w ≡ length bs → take k bs ++ bytes_of (w - k) rest ≡ all → take (k + 1) (set bs k (rest % 256)) ++ bytes_of (w - (k + 1)) (rest / 256) ≡ all
 unfolding bytes_of
 bytes_more bs w k rest all lt e h =
     let s : w - k ≡ suc (w - (k + 1)) = omega arith in
     rw (take_more_set bs k (rest % 256) (omega arith), append_assoc (take k bs) (rest % 256 ∷ []) (bytes_of (w - (k + 1)) (rest / 256))) (rw s at h)
-
-pub bytes_all : (bs : List ℕ) (w k rest : ℕ) (all : List ℕ) → w ≤ k → w ≡ length bs → take k bs ++ bytes_of (w - k) rest ≡ all → bs ≡ all
-unfolding bytes_of
-bytes_all bs w k rest all le e h =
-    let z : w - k ≡ 0 = omega arith in
-    sym (append-nil bs) ∙ (rw (take_all k bs (omega arith), z) at h)

@@ -10,16 +10,17 @@ use Rattle.nodes.proofs.LowFirst.{length_bytes_of, value_bytes, bytes_value, val
 pub all_bytes : (bs : List ℕ) → ((i : ℕ) → Fits w8 (get_or bs i 0)) → Bytes bs
 all_bytes bs h = All-from_get_or (λ b. b < 256) bs 0 (λ i _. (h i).fits)
 
+-- where the next number begins
+next : (w i : ℕ) → w + w * i ≡ w * suc i
+next w i = rw (mul-suc w i) (omega arith)
+
 -- one more number is read
 pub values_more : (w i : ℕ) (bs : List ℕ) → values_of w (suc i) bs ≡ values_of w i bs ++ value_of (take w (drop (w * i) bs)) ∷ []
 unfolding values_of
 values_more w zero bs = rw (mul-zero w)
 values_more w (suc i) bs =
     ap (λ l. value_of (take w bs) ∷ l)
-    (values_more w i (drop w bs) ∙ ap (λ l. values_of w i (drop w bs) ++ value_of (take w l) ∷ []) (drop-drop (w * i) w bs ∙ ap (λ j. drop j bs) (e w i)))
-  where
-    e : (w i : ℕ) → w + w * i ≡ w * suc i
-    e w i = rw (mul-suc w i) (omega arith)
+    (values_more w i (drop w bs) ∙ ap (λ l. values_of w i (drop w bs) ++ value_of (take w l) ∷ []) (drop-drop (w * i) w bs ∙ ap (λ j. drop j bs) (next w i)))
 
 pub reads_more : {X : Type 0} (f : X → ℕ) (w i a k : ℕ) (bs : List ℕ) (xs : List X) (x : X) → i < length xs → a ≡ w * i → k ≡ w → f x ≡ value_of (take k (drop a bs)) → map f (take i xs) ≡ values_of w i bs → map f (take (i + 1) (set xs i x)) ≡ values_of w (i + 1) bs
 reads_more f w i a k bs xs x lt ae ke ne h =
@@ -46,10 +47,7 @@ get_d_values w zero i bs lt = absurd (omega arith)
 get_d_values w (suc k) zero bs lt = rw (mul-zero w)
 get_d_values w (suc k) (suc i) bs lt =
     get_d_values w k i (drop w bs) (omega arith)
-    ∙ ap (λ l. value_of (take w l)) (drop-drop (w * i) w bs ∙ ap (λ j. drop j bs) (step w i))
-  where
-    step : (w i : ℕ) → w + w * i ≡ w * suc i
-    step w i = rw (mul-suc w i) (omega arith)
+    ∙ ap (λ l. value_of (take w l)) (drop-drop (w * i) w bs ∙ ap (λ j. drop j bs) (next w i))
 
 pub values_fit : (w k : ℕ) (bs : List ℕ) → Bytes bs → AllByRecursion (λ n. n < 256 ^ w) (values_of w k bs)
 unfolding values_of

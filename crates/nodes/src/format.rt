@@ -19,6 +19,7 @@ pub(crate) const LINKS_AT: usize = 2;
 pub(crate) const OFFSETS_AT: usize = LINKS_AT + LINK_BYTES * CHILDREN;
 
 // Writes a number over any bytes, low byte first. What does not fit them is left out.
+#[tactic(auto, using(crate::proofs::LowFirst::bytes_more), unfolding(crate::specs::Format::bytes_of))]
 pub fn write_number(bytes: &mut [u8], number: u32)
     ensures { bytes.new ≡ bytes_of (length bytes.old) number }
 {
@@ -29,11 +30,11 @@ pub fn write_number(bytes: &mut [u8], number: u32)
     }
 }
 
-// A link or an offset: a number that takes so many bytes of a written record.
+// A link or an offset: a number in a record.
 pub(crate) trait Field: Copy + Default {
+    // How many bytes it is written in.
     const WIDTH: usize;
 
-    // how many bytes it takes
     ghost WIDTH: { ℕ };
 
     // the number that it is

@@ -26,7 +26,7 @@ fn most_in<T: Place>(places: usize) -> usize
     (places / T::WIDTH).min(MOST_NODES)
 }
 
-// Empties the places of the records `from` to `to`, `to` not among them.
+// Empties the places of the records `from` to `to`, those of record `to` not among them.
 fn blank_out<T: Place>(places: &mut [T], from: usize, to: usize)
     requires ordered { from ≤ to }
     requires inside { to ≤ capped (T.room (length places.old)) }

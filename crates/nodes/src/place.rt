@@ -1,4 +1,4 @@
-// What lent memory consists of: places, each a record or a byte of a written one.
+// The places that lent memory consists of. A place is a record, or a byte of a written one.
 ghost use Rattle.std.specs.Prelude.{◌≡◌, ℕ, ◌+◌, ◌*◌, ◌/◌, ◌<◌, ◌≤◌, List, [], ◌∷◌, ◌++◌, length, take, drop, slice_index};
 ghost use Rattle.nodes.specs.declared.node.Node.{Node};
 ghost use Rattle.nodes.specs.Records.{children};
@@ -7,17 +7,17 @@ ghost use Rattle.nodes.specs.Pools.{Holds, Memory, front};
 
 use crate::node::Node;
 
-// A place of lent memory, of which each record takes the same number.
+// A place of lent memory. Each record takes the same number of them.
 pub trait Place: Copy {
+    // How many places one record takes.
     const WIDTH: usize;
 
-    // how many places one record takes
     ghost WIDTH: { ℕ };
 
     // how many places so many records take
     ghost span: { ℕ → ℕ };
 
-    // how many records so many places hold
+    // how many whole records so many places hold
     ghost room: { ℕ → ℕ };
 
     // what stands in a place of no record
@@ -35,23 +35,24 @@ pub trait Place: Copy {
     // a record takes one place at least
     ghost wide: { 0 < WIDTH };
 
+    // the two counts by the width
     ghost spans: { (n : ℕ) → span n ≡ WIDTH * n };
 
     ghost rooms: { (n : ℕ) → room n ≡ n / WIDTH };
 
-    // as many records as were asked for, where the places hold them
+    // places that hold n records hold n of them
     ghost long: { (n : ℕ) (m : List Self) → span n ≤ length m → length (nodes_in n m) ≡ n };
 
-    // one record more
+    // record n is the one that its own places hold
     ghost more: { (n : ℕ) (m : List Self) → span (n + 1) ≤ length m → nodes_in (n + 1) m ≡ nodes_in n m ++ node_in (take WIDTH (drop (span n) m)) ∷ [] };
 
-    // records depend on their own places only
+    // the first records depend on their own places only
     ghost own: { (n : ℕ) (m : List Self) → span n ≤ length m → nodes_in n (take (span n) m) ≡ nodes_in n m };
 
-    // the front of memory, shown
+    // the part of memory in which the first n records lie, as a caller knows it
     ghost fronts: { (n : ℕ) (m : List Self) → front n (shown m) ≡ shown (take (span n) m) };
 
-    // memory in order, shown
+    // memory that holds n records, blanks and what lies behind, as a caller knows it
     ghost shows: { (n p : ℕ) (m b : List Self) → m ≡ laid empty (take (span n) m) (span p) b → Holds (shown m) (nodes_in n m) p (shown b) };
 
     // What stands in a place of no record.
