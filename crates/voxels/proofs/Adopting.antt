@@ -1,9 +1,10 @@
 -- A delivered map: its words as tags, and what it stands for.
-use Rattle.std.proofs.Common.{◌≡◌, ℕ, zero, suc, ◌<◌, ◌≤◌, true, false, leb, List, [], ◌∷◌, map, length, get_or, is_some, Some, None, Option, sym, refl, ap, ◌∙◌, subst, ap₂, arith}
-use Rattle.std.specs.List.{slice_get}
+use Rattle.std.proofs.Common.{◌≡◌, ℕ, zero, suc, ◌+◌, add-zero, zero-add, ◌<◌, ◌≤◌, Bool, true, false, leb, List, [], ◌∷◌, map, length, get_or, is_some, Some, None, Option, sym, refl, ap, ◌∙◌, subst, ap₂, arith}
+use Rattle.std.specs.List.{list_all, range_with_len}
+use Rattle.std.specs.Option.{option_and_then}
 use Rattle.std.proofs.lemmas.List.{length-map}
 use Rattle.std.proofs.lemmas.Option.{slice_get-get_or}
-use Rattle.std.proofs.lemmas.Bool.{and_parts, leb-true, both_ways}
+use Rattle.std.proofs.lemmas.Bool.{and_from, and_parts, leb-true, both_ways}
 use Rattle.cells.specs.Hall.{levels_fit}
 use Rattle.nodes.specs.declared.node.Node.{Node}
 use Rattle.dag.specs.Sets.{CellSet}
@@ -14,15 +15,36 @@ use Rattle.dag.proofs.Marked.{marked_set, seals_marked}
 use Rattle.voxels.specs.declared.phase.Phase.{Phase}
 use Rattle.voxels.specs.declared.phase.Phase.TheVariants.{Sealed}
 use Rattle.voxels.specs.Stands.{SealedAs}
-use Rattle.voxels.specs.Adopts.{AllTags, TagsFit, Verdict, tags_of, with_tag, bad_levels, not_sealed, tags_unfit}
+use Rattle.voxels.specs.Adopts.{tag_at, AllTags, TagsFit, Verdict, tags_of, with_tag, bad_levels, not_sealed, tags_unfit}
 
 -- ---- a store's words, one by one
 
-pub word_at : (words : List ℕ) (n w : ℕ) → n < length words → slice_get words n ≡ Some w → get_or words n 0 ≡ w
-word_at words n w h e = let f = slice_get-get_or words n 0 h in cc
+-- a test of each number of a range
+each_below : (test : ℕ → Bool) (a n : ℕ) → list_all test (range_with_len a n) ≡ true → (k : ℕ) → k < n → test (a + k) ≡ true
+each_below test a zero e k h = absurd (omega arith)
+each_below test a (suc n) e zero h = ap test (add-zero a) ∙ (and_parts _ _ e).0
+each_below test a (suc n) e (suc k) h =
+    let same : a + suc k ≡ a + 1 + k = omega arith in
+    ap test same ∙ each_below test (a + 1) n (and_parts _ _ e).1 k (omega arith)
 
-pub word_there : (words : List ℕ) (n : ℕ) → n < length words → slice_get words n ≡ None → ⊥
-word_there words n h e = let f = slice_get-get_or words n 0 h in let z : ◌≡◌ {A = ℕ} 0 1 = cc in omega arith
+all_below : (test : ℕ → Bool) (a n : ℕ) → ((k : ℕ) → k < n → test (a + k) ≡ true) → list_all test (range_with_len a n) ≡ true
+all_below test a zero h = refl
+all_below test a (suc n) h =
+    and_from _ _ (ap test (sym (add-zero a)) ∙ h 0 (omega arith))
+    (all_below test (a + 1) n (λ k l. let same : a + 1 + k ≡ a + suc k = omega arith in ap test same ∙ h (suc k) (omega arith)))
+
+-- a word that is there
+tag_here : {K : Type 0} (reading : ℕ → Option K) (words : List ℕ) (n : ℕ) → n < length words → tag_at reading words n ≡ is_some (reading (get_or words n 0))
+tag_here reading words n h = ap (λ o. is_some (option_and_then reading o)) (slice_get-get_or words n 0 h)
+
+-- so the test of all words
+pub tags_tested : {K : Type 0} (reading : ℕ → Option K) (words : List ℕ) (count : ℕ) (b : Bool) → count ≡ length words
+    → b ≡ list_all (tag_at reading words) (range_with_len 0 count) → (b ≡ true → AllTags reading words) × (AllTags reading words → b ≡ true)
+tags_tested reading words count b long e = (
+  (λ t n h. sym (tag_here reading words n h) ∙ ap (tag_at reading words) (sym (zero-add n)) ∙ each_below (tag_at reading words) 0 count (sym e ∙ t) n (omega arith)),
+  (λ all. e ∙ all_below (tag_at reading words) 0 count
+      (λ k h. ap (tag_at reading words) (zero-add k) ∙ tag_here reading words k (omega arith) ∙ all k (omega arith))),
+)
 
 -- ---- words and tags
 

@@ -1,10 +1,10 @@
 -- What place makes of an open map.
-use Rattle.std.proofs.Common.{◌≡◌, ℕ, ◌+◌, ◌^◌, ◌<◌, ◌≤◌, Bool, true, false, cond, not, ltb, leb, List, [], ◌∷◌, ◌++◌, length, Some, None, Ok, Err, Option, inl, inr, sym, refl, ap, ◌∙◌, subst, arith}
+use Rattle.std.proofs.Common.{◌≡◌, ℕ, ◌+◌, ◌^◌, ◌<◌, ◌≤◌, Bool, true, false, not, ltb, List, [], ◌∷◌, ◌++◌, length, Some, None, Ok, Err, Option, inl, inr, sym, refl, ap, ◌∙◌, subst, arith}
 use mathlib.Core.List.{map-append}
 use Rattle.std.specs.List.{AllByRecursion}
 use Rattle.std.proofs.ByRecursion.{All-weaker, All-push}
 use Rattle.std.proofs.lemmas.List.{length_push}
-use Rattle.std.proofs.lemmas.Bool.{lt-ltb, le-ltb, le-leb, lt-leb}
+use Rattle.std.proofs.lemmas.Bool.{lt-ltb, le-ltb, lt-leb}
 use Rattle.cells.specs.Refusals.{Answer, gives, refuses, refuse_if, number_of}
 use Rattle.cells.specs.declared.refusal.Refusal.{Refusal}
 use Rattle.cells.specs.Hall.{levels_fit}
@@ -18,7 +18,6 @@ use Rattle.dag.specs.Rows.{stage_row}
 use Rattle.dag.proofs.Depends.{below_none}
 use Rattle.dag.proofs.Next.{set_push, push_last, push_one, first_last, first_one, rows_ready, counts_ready, rows_start, counts_start}
 use Rattle.voxels.specs.declared.phase.Phase.{Phase}
-use Rattle.voxels.specs.declared.phase.Phase.TheVariants.{Open}
 use Rattle.voxels.specs.declared.row.OpenRow.{OpenRow}
 use Rattle.voxels.specs.Closes.{RowsFor}
 use Rattle.voxels.specs.Places.{CellTaken, place_told}

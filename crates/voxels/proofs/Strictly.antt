@@ -1,5 +1,5 @@
 -- What strictest answers on a sealed map.
-use Rattle.std.proofs.Common.{◌≡◌, ℕ, ◌^◌, ◌<◌, ◌≤◌, Bool, true, false, not, ◌&&◌, ◌||◌, List, map, length, Some, None, Option, sym, refl, ap, ◌∙◌, subst, ap₂, zero-mul, arith}
+use Rattle.std.proofs.Common.{◌≡◌, ℕ, ◌^◌, ◌<◌, ◌≤◌, Bool, true, false, not, ◌&&◌, ◌||◌, List, map, length, Some, None, Option, sym, ap, ◌∙◌, subst, ap₂, zero-mul, arith}
 use native.Mathlib.Nat.{pow-le-pow_right}
 use Rattle.cells.specs.Refusals.{Answer, gives, refuses, refuse_if}
 use Rattle.cells.specs.Hall.{cell_fits}

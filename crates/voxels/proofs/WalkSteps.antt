@@ -1,5 +1,5 @@
 -- One step of a walk, by what the code reads of a record.
-use Rattle.std.proofs.Common.{◌≡◌, ℕ, zero, suc, ◌+◌, ◌*◌, ◌/◌, ◌%◌, ◌^◌, ◌<◌, ◌≤◌, Bool, true, false, cond, eqb, not, List, [], length, Some, None, sym, refl, ap, ◌∙◌, subst, add-zero, mod-lt, arith}
+use Rattle.std.proofs.Common.{◌≡◌, ℕ, zero, suc, ◌+◌, ◌/◌, ◌%◌, ◌^◌, ◌<◌, ◌≤◌, Bool, true, false, cond, eqb, not, List, [], length, Some, None, sym, refl, ap, ◌∙◌, subst, add-zero, mod-lt, arith}
 use Rattle.std.proofs.lemmas.Bool.{and_from, and_left, and_right, lt-ltb, le-ltb, eq-eqb, ne_eqb, eqb-true, eqb-false}
 use Rattle.cells.specs.Hall.{bit}
 use Rattle.cells.specs.SubCubes.{child, sub_cube}

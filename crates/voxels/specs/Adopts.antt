@@ -1,5 +1,7 @@
 -- When a delivered map is taken, and what it then stands for.
-use Rattle.std.specs.Prelude.{◌≡◌, ℕ, ◌<◌, true, false, List, [], ◌∷◌, map, length, is_some, Some, None, Option, slice_index}
+use Rattle.std.specs.Prelude.{◌≡◌, ℕ, ◌<◌, Bool, true, false, List, [], ◌∷◌, map, length, is_some, Some, None, Option, slice_index}
+use Rattle.std.specs.List.{slice_get}
+use Rattle.std.specs.Option.{option_and_then}
 use Rattle.cells.specs.Hall.{levels_fit}
 use Rattle.nodes.specs.declared.node.Node.{Node}
 use Rattle.dag.specs.Sets.{CellSet}
@@ -11,6 +13,10 @@ use Rattle.voxels.specs.Shown.{ShowsSealed}
 -- every word is that of a tag
 abbrev pub AllTags : {K : Type 0} → (ℕ → Option K) → List ℕ → Type 0
 AllTags reading words = (n : ℕ) → n < length words → is_some (reading (slice_index words n)) ≡ true
+
+-- whether word n is there and that of a tag
+abbrev pub tag_at : {K : Type 0} → (ℕ → Option K) → List ℕ → ℕ → Bool
+tag_at reading words n = is_some (option_and_then reading (slice_get words n))
 
 -- the tags fit: there are as many words as cells, and every word is that of a tag
 pub record TagsFit {K : Type 0} (reading : ℕ → Option K) (cells words : List ℕ) : Type 0 where

@@ -61,10 +61,10 @@ impl OpenRow {
 pub(crate) fn empty_rows() -> [OpenRow; ROWS]
     ensures { EmptyRows result }
 {
-    array::from_fn(|j: usize| -> OpenRow
-        requires { j < 10 }
-        ensures { (result.node ≡ empty_row j) × (result.count ≡ 0) }
-    {
-        OpenRow::empty(j as u8 + 1)
-    })
+    array::from_fn(
+        |j: usize| -> OpenRow
+            requires { j < 10 }
+            ensures { (result.node ≡ empty_row j) × (result.count ≡ 0) }
+        { OpenRow::empty(j as u8 + 1) },
+    )
 }

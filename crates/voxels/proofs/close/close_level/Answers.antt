@@ -1,4 +1,4 @@
-use Rattle.std.proofs.Common.{sym, refl, subst, arith}
+use Rattle.std.proofs.Common.{refl, arith}
 use Rattle.std.proofs.lemmas.Result.{err_from_is_err_and}
 use Rattle.voxels.proofs.Closing.{stage_next, stage_refused, top_moves, parent_moves}
 use Rattle.voxels.proofs.close.close_level.Goals as goal

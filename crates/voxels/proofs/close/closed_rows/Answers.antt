@@ -1,4 +1,4 @@
-use Rattle.std.proofs.Common.{◌≤◌, length, sym, ◌∙◌, arith}
+use Rattle.std.proofs.Common.{sym, ◌∙◌, arith}
 use Rattle.voxels.proofs.Closing.{below_full, closed_at}
 use Rattle.voxels.proofs.Cutting.{back_list, back_memory, back_grown}
 use Rattle.voxels.proofs.Growing.{grown_trans}

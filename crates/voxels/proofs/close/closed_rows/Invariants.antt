@@ -1,4 +1,4 @@
-use Rattle.std.proofs.Common.{◌≡◌, ℕ, ◌≢◌, List}
+use Rattle.std.proofs.Common.{ℕ, ◌≢◌, List}
 use Rattle.cells.specs.SubCubes.{sub_cube}
 use Rattle.voxels.specs.Growing.{Grown}
 use Rattle.voxels.specs.Stages.{AtStage}

@@ -1,10 +1,9 @@
-use Rattle.std.proofs.Common.{◌≡◌, ◌<◌, ◌≤◌, length, sym, ap, ◌∙◌, subst, arith}
+use Rattle.std.proofs.Common.{◌<◌, ◌≤◌, length, sym, ap, ◌∙◌, subst, arith}
 use Rattle.std.proofs.lemmas.Bool.{both_ways}
 use Rattle.nodes.specs.Records.{none}
 use Rattle.dag.specs.Sizes.{size}
 use Rattle.dag.specs.Meets.{meet}
 use Rattle.dag.specs.Checks.{Countable}
-use Rattle.dag.specs.Walk.{root}
 use Rattle.voxels.proofs.Verdicts.{root_countable, not_each, not_rooted, not_order, no_records, passed}
 use Rattle.voxels.proofs.judge.cells_of.Goals as goal
 

@@ -1,4 +1,4 @@
-use Rattle.std.proofs.Common.{eqb, ◌/◌, ◌%◌, ◌^◌, ◌<◌, ◌≤◌, length, sym, ap, ◌∙◌, subst, arith}
+use Rattle.std.proofs.Common.{eqb, ◌^◌, ◌<◌, ◌≤◌, length, sym, ap, ◌∙◌, subst, arith}
 use Rattle.cells.specs.Hall.{bit}
 use Rattle.nodes.specs.Records.{none}
 use Rattle.voxels.specs.Finds.{GoesTo}
