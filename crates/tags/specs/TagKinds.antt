@@ -1,5 +1,5 @@
 -- The kinds: which numbers make a tag, and what its word tells.
-use Rattle.std.specs.Prelude.{◌≡◌, ℕ, ◌/◌, ◌%◌, ◌^◌, ◌<◌, ◌≤◌, true, ◌||◌, Some}
+use Rattle.std.specs.Prelude.{◌≡◌, ℕ, ◌/◌, ◌%◌, ◌^◌, ◌<◌, ◌≤◌, true, ◌||◌, Some, None}
 use Rattle.std.proofs.Common.{sym, ap, ◌∙◌, arith}
 use Rattle.std.proofs.lemmas.Bool.{leb-true}
 use Rattle.std.proofs.lemmas.Bool.Decides.{nat_tests}
@@ -12,10 +12,13 @@ use Rattle.tags.specs.Bounds.{top_speed, top_load, top_zone, first_plate, last_p
 use Rattle.tags.specs.Speeds.{limit_of, speed_of, slower}
 use Rattle.tags.specs.Loads.{load_at, load_of, load_word, lighter}
 use Rattle.tags.specs.Labels.{plate_of, label_of}
-use Rattle.tags.specs.Makes.{only_if_yes, only_if_some, some_same}
+use Rattle.tags.specs.Makes.{only_if_yes, only_if_no, only_if_some, some_same}
 
 pub speed_inside : (n : ℕ) (low : n ≤ top_speed) → speed_of n ≡ Some (record { limit = n; low = low })
 speed_inside n low = only_if_yes le_prop (dec_le n top_speed) _ low
+
+pub speed_outside : (n : ℕ) → top_speed < n → speed_of n ≡ None
+speed_outside n high = only_if_no (dec_le n top_speed) _ (omega arith)
 
 pub speed_back : (t : Speed) → speed_of t.limit ≡ Some t
 speed_back t = speed_inside t.limit t.low
@@ -30,6 +33,12 @@ speed_same a b e = some_same a b (sym (speed_back a) ∙ ap speed_of e ∙ speed
 pub load_inside : (n z : ℕ) (light : n ≤ top_load) (near : z ≤ top_zone) → load_at n z ≡ Some (record { load = n; zone = z; light = light; near = near })
 load_inside n z light near =
     only_if_yes le_prop (dec_le n top_load) _ light ∙ only_if_yes le_prop (dec_le z top_zone) _ near
+
+pub load_heavy : (n z : ℕ) → top_load < n → load_at n z ≡ None
+load_heavy n z high = only_if_no (dec_le n top_load) _ (omega arith)
+
+pub load_far : (n z : ℕ) → n ≤ top_load → top_zone < z → load_at n z ≡ None
+load_far n z light high = only_if_yes le_prop (dec_le n top_load) _ light ∙ only_if_no (dec_le z top_zone) _ (omega arith)
 
 -- a load in a zone is told by its two numbers
 pub load_same : (a b : Load) → a.load ≡ b.load → a.zone ≡ b.zone → a ≡ b
@@ -58,6 +67,12 @@ load_only w t e =
 pub label_inside : (n : ℕ) (some : first_plate ≤ n) (last : n ≤ last_plate) → label_of n ≡ Some (record { plate = n; some = some; last = last })
 label_inside n some last =
     only_if_yes le_prop (dec_le first_plate n) _ some ∙ only_if_yes le_prop (dec_le n last_plate) _ last
+
+pub label_below : (n : ℕ) → n < first_plate → label_of n ≡ None
+label_below n low = only_if_no (dec_le first_plate n) _ (omega arith)
+
+pub label_above : (n : ℕ) → first_plate ≤ n → last_plate < n → label_of n ≡ None
+label_above n some high = only_if_yes le_prop (dec_le first_plate n) _ some ∙ only_if_no (dec_le n last_plate) _ (omega arith)
 
 pub label_back : (t : Label) → label_of t.plate ≡ Some t
 label_back t = label_inside t.plate t.some t.last
