@@ -9,8 +9,7 @@ pub trait TagKind: Copy {
     // the written width of a tag in bytes
     const WIDTH: usize;
 
-    // the written width, as the definitions have it
-    ghost width: { ℕ };
+    ghost WIDTH: { ℕ };
 
     // the word of a tag
     ghost word_of: { Self → ℕ };
@@ -18,9 +17,12 @@ pub trait TagKind: Copy {
     // the tag that a word reads as, or absent
     ghost reading: { ℕ → Option Self };
 
-    // The constant WIDTH, with its meaning promised.
+    // The written width, as a call.
     fn written_width() -> usize
-        ensures { result ≡ width };
+        ensures { result ≡ WIDTH }
+    {
+        Self::WIDTH
+    }
 
     // The tag's word.
     fn word(self) -> u32
@@ -37,10 +39,10 @@ pub trait TagKind: Copy {
     ghost only: { (w : ℕ) (t : Self) → reading w ≡ Some t → word_of t ≡ w };
 
     // a tag is written in 1 to 4 bytes
-    ghost bytes: { (1 ≤ width) × (width ≤ 4) };
+    ghost bytes: { (1 ≤ WIDTH) × (WIDTH ≤ 4) };
 
     // every word fits into the written width
-    ghost fits: { (t : Self) → word_of t < 256 ^ width };
+    ghost fits: { (t : Self) → word_of t < 256 ^ WIDTH };
 }
 
 // A kind of tags with an order of strictness.

@@ -25,7 +25,7 @@ impl Label {
 impl TagKind for Label {
     const WIDTH: usize = 2;
 
-    ghost width = { label_width };
+    ghost WIDTH = { label_width };
 
     ghost word_of = { plate_of };
 
@@ -38,10 +38,6 @@ impl TagKind for Label {
     ghost bytes = { label_bytes };
 
     ghost fits = { label_fits };
-
-    fn written_width() -> usize {
-        Self::WIDTH
-    }
 
     fn word(self) -> u32 {
         u32::from(self.plate)

@@ -26,7 +26,7 @@ impl Load {
 impl TagKind for Load {
     const WIDTH: usize = 3;
 
-    ghost width = { load_width };
+    ghost WIDTH = { load_width };
 
     ghost word_of = { λ t. load_word t.load t.zone };
 
@@ -39,10 +39,6 @@ impl TagKind for Load {
     ghost bytes = { load_bytes };
 
     ghost fits = { load_fits };
-
-    fn written_width() -> usize {
-        Self::WIDTH
-    }
 
     fn word(self) -> u32 {
         u32::from(self.zone) * LOADS_PER_ZONE + u32::from(self.load)

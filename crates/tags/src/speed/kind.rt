@@ -25,7 +25,7 @@ impl Speed {
 impl TagKind for Speed {
     const WIDTH: usize = 2;
 
-    ghost width = { speed_width };
+    ghost WIDTH = { speed_width };
 
     ghost word_of = { limit_of };
 
@@ -38,10 +38,6 @@ impl TagKind for Speed {
     ghost bytes = { speed_bytes };
 
     ghost fits = { speed_fits };
-
-    fn written_width() -> usize {
-        Self::WIDTH
-    }
 
     fn word(self) -> u32 {
         u32::from(self.limit)

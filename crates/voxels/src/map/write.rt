@@ -15,7 +15,7 @@ use tags::store::TagStore;
 impl<P: NodePool, S: TagStore, K: TagKind> Map<P, S, K> {
     // Whether one of the buffers is too short for the map.
     fn outgrows(&self, nodes: &[u8], tags: &[u8]) -> bool
-        ensures { result ≡ too_short (shown P.NodePool S.TagStore self.now) K.TagKind.width nodes.now tags.now }
+        ensures { result ≡ too_short (shown P.NodePool S.TagStore self.now) K.TagKind.WIDTH nodes.now tags.now }
     {
         let records = NODE_BYTES * self.pool.count();
         let words = K::written_width() * self.store.count();
@@ -24,12 +24,12 @@ impl<P: NodePool, S: TagStore, K: TagKind> Map<P, S, K> {
 
     // Writes the records into the first buffer and the words into the second. What lies behind them stays.
     pub fn write(&self, nodes: &mut [u8], tags: &mut [u8]) -> Result<(), Refusal>
-        ensures answers { answer result ≡ write_answer (shown P.NodePool S.TagStore self.now) K.TagKind.width nodes.old tags.old }
+        ensures answers { answer result ≡ write_answer (shown P.NodePool S.TagStore self.now) K.TagKind.WIDTH nodes.old tags.old }
         ensures kept { Refused (answer result) ((nodes.new ≡ nodes.old) × (tags.new ≡ tags.old)) }
         ensures nodes { Accepted (answer result) (nodes.new ≡ nodes_written (shown P.NodePool S.TagStore self.now) nodes.old) }
-        ensures tags { Accepted (answer result) (tags.new ≡ words_written (shown P.NodePool S.TagStore self.now) K.TagKind.width tags.old) }
+        ensures tags { Accepted (answer result) (tags.new ≡ words_written (shown P.NodePool S.TagStore self.now) K.TagKind.WIDTH tags.old) }
         ensures back { Accepted (answer result) (NodesBack (shown P.NodePool S.TagStore self.now) nodes.new) }
-        ensures tells { WordsBack K.TagKind.word_of K.TagKind.width (shown P.NodePool S.TagStore self.now) tags.new (answer result) }
+        ensures tells { WordsBack K.TagKind.word_of K.TagKind.WIDTH (shown P.NodePool S.TagStore self.now) tags.new (answer result) }
     {
         self.plain.sealed()?;
         if self.outgrows(nodes, tags) {
