@@ -53,7 +53,11 @@ impl Draft {
     fn close(mut self) -> Result<String, AllocError>
         ensures { IfOk result (λ s. string_bytes s ≡ string_bytes self.text ++ summary self.located self.refused) }
     {
-        writeln!(self.text, "located {} refused {}", self.located, self.refused)?;
+        writeln!(
+            self.text,
+            "located {} refused {}",
+            self.located, self.refused
+        )?;
         let Draft {
             text,
             line: _,

@@ -4,9 +4,6 @@ use Rattle.std.specs.List.{slice_get}
 use Rattle.std.proofs.lemmas.Bool.{eq-eqb, ne_eqb}
 use Rattle.text.specs.Pieces.{pieces, widened}
 
-same_some : (x y : ℕ) → x ≡ y → Some x ≡ Some y
-same_some x y e = ap Some e
-
 some_same : (x y : ℕ) → Some x ≡ Some y → x ≡ y
 some_same x y e = cc
 

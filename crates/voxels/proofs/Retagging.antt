@@ -17,6 +17,7 @@ use Rattle.dag.proofs.Counts.{count_split}
 use Rattle.dag.proofs.Contents.{count_one}
 use Rattle.dag.proofs.Judging.{length_count}
 use Rattle.dag.proofs.Laws.{marks_cells, ranks_cells}
+use Rattle.voxels.specs.declared.phase.Phase.TheVariants.{Sealed}
 use Rattle.voxels.specs.Finds.{found}
 use Rattle.voxels.specs.Shown.{Shown, Accepted, ShowsSealed}
 use Rattle.voxels.specs.Phases.{if_sealed, levels_in}
@@ -130,31 +131,45 @@ module _ {K : Type 0} (word_of : K → ℕ) (L : ℕ) (cells : List ℕ) (tags :
           f ∙ ap (λ b. refuse_if (not b) 3 (refuse_if (not (has cells code)) 5 (refuse_if (not (m.admits (set m.words (count cells 0 code) (word_of tag)))) 7 (gives tt))))
           (sym fits ∙ ap (λ l. cell_fits l cell) s.levels_are)
 
--- what the store's change leaves of the map
-pub changed_by : (m : Shown) (cell : Cell) (w count code n : ℕ) (a : Answer (Unit {0})) (words : List ℕ) (admits : List ℕ → Bool)
-    → gives count ≡ if_sealed m.phase (gives m.levels) → gives code ≡ refuse_if (not (cell_fits count cell)) 3 (gives (code_of count cell)) → Some n ≡ found count m.nodes code
-    → a ≡ refuse_if (not (can_change m.admits m.words n w)) 7 (gives tt) → words ≡ cond (can_change m.admits m.words n w) (set m.words n w) m.words → admits ≡ m.admits
-    → Changes cell w m (with_words m words admits) a
-changed_by m cell w count code n a words admits e c f told is rule =
-    subst (λ x. Accepted x (with_words m words admits ≡ with_word m (rank m.levels m.nodes (code_of m.levels cell)) w)) (sym told) (go (can_change m.admits m.words n w) is)
-  where
-    there : (b : Bool) → Some n ≡ cond b (Some (rank count m.nodes code)) None → n ≡ rank count m.nodes code
-    there true h = cc
-    there false h = let z : ◌≡◌ {A = ℕ} 0 1 = cc in absurd (omega arith)
+-- a cell that was looked up in a sealed map, by its code and the rank that the walk found
+module _ (m : Shown) (cell : Cell) (w count code n : ℕ) (a : Answer (Unit {0}))
+    (e : gives count ≡ if_sealed m.phase (gives m.levels)) (c : gives code ≡ refuse_if (not (cell_fits count cell)) 3 (gives (code_of count cell)))
+    (f : Some n ≡ found count m.nodes code) (told : a ≡ refuse_if (not (can_change m.admits m.words n w)) 7 (gives tt)) where
+  made : (b : Bool) → gives code ≡ refuse_if (not b) 3 (gives (code_of count cell)) → (b ≡ true) × (code ≡ code_of count cell)
+  made true h = (refl, cc)
+  made false h = let z : ◌≡◌ {A = ℕ} 0 1 = cc in absurd (omega arith)
 
-    inside : (b : Bool) → gives code ≡ refuse_if (not b) 3 (gives (code_of count cell)) → code ≡ code_of count cell
-    inside true h = cc
-    inside false h = let z : ◌≡◌ {A = ℕ} 0 1 = cc in absurd (omega arith)
+  is_sealed : (m.phase ≡ Sealed) × (count ≡ m.levels)
+  is_sealed = sealed_is m.phase m.levels count e
 
-    at : n ≡ rank m.levels m.nodes (code_of m.levels cell)
-    at =
-        there (marks count m.nodes code) f ∙ ap (rank count m.nodes) (inside (cell_fits count cell) c)
-        ∙ ap (λ l. rank l m.nodes (code_of l cell)) (sealed_is m.phase m.levels count e).1
+  -- the answer of the store is that of the call
+  pub answered_by : a ≡ retag_answer m cell w
+  answered_by =
+      let p = made (cell_fits count cell) c in
+      told ∙ ap (retag_at m w) (f ∙ ap (found count m.nodes) p.1)
+      ∙ sym (goes_on (cell_fits count cell) 3 (retag_at m w (found count m.nodes (code_of count cell))) p.0)
+      ∙ ap (λ l. refuse_if (not (cell_fits l cell)) 3 (retag_at m w (found l m.nodes (code_of l cell)))) is_sealed.1
+      ∙ ap (λ p. if_sealed p (refuse_if (not (cell_fits m.levels cell)) 3 (retag_at m w (found m.levels m.nodes (code_of m.levels cell))))) (sym is_sealed.0)
 
-    go : (b : Bool) → words ≡ cond b (set m.words n w) m.words
-        → Accepted (refuse_if {A = Unit {0}} (not b) 7 (gives tt)) (with_words m words admits ≡ with_word m (rank m.levels m.nodes (code_of m.levels cell)) w)
-    go true h = ap₂ (with_words m) (h ∙ ap (λ k. set m.words k w) at) rule
-    go false h = tt
+  -- what the store's change leaves of the map
+  pub changed_by : (words : List ℕ) (admits : List ℕ → Bool) → words ≡ cond (can_change m.admits m.words n w) (set m.words n w) m.words → admits ≡ m.admits
+      → Changes cell w m (with_words m words admits) a
+  changed_by words admits is rule =
+      subst (λ x. Accepted x (with_words m words admits ≡ with_word m (rank m.levels m.nodes (code_of m.levels cell)) w)) (sym told) (go (can_change m.admits m.words n w) is)
+    where
+      there : (b : Bool) → Some n ≡ cond b (Some (rank count m.nodes code)) None → n ≡ rank count m.nodes code
+      there true h = cc
+      there false h = let z : ◌≡◌ {A = ℕ} 0 1 = cc in absurd (omega arith)
+
+      at : n ≡ rank m.levels m.nodes (code_of m.levels cell)
+      at =
+          there (marks count m.nodes code) f ∙ ap (rank count m.nodes) (made (cell_fits count cell) c).1
+          ∙ ap (λ l. rank l m.nodes (code_of l cell)) is_sealed.1
+
+      go : (b : Bool) → words ≡ cond b (set m.words n w) m.words
+          → Accepted (refuse_if {A = Unit {0}} (not b) 7 (gives tt)) (with_words m words admits ≡ with_word m (rank m.levels m.nodes (code_of m.levels cell)) w)
+      go true h = ap₂ (with_words m) (h ∙ ap (λ k. set m.words k w) at) rule
+      go false h = tt
 
 -- so the answer by the list is the answer by the cells, and an accepted call changes what it says
 pub retag_by : {K : Type 0} (word_of : K → ℕ) (m after : Shown) (cell : Cell) (tag : K) (a : Answer (Unit {0}))

@@ -51,10 +51,3 @@ pub record Closed (L : ℕ) (cells : List ℕ) (m code : ℕ) (ns : List Node) (
   pub parted : sub_cube level m ≢ sub_cube level code
   pub together : level < L → sub_cube (suc level) m ≡ sub_cube (suc level) code
   pub stage : AtStage L cells m level ns rows
-
--- from stage 0 to there; it is refused only where the list would outgrow the capacity
-abbrev pub Carried : ℕ → ℕ → ℕ → List Node → ℕ → List OpenRow → List Node → List OpenRow → Result (Unit {0}) Refusal → Type 0
-Carried L m code ns capacity rows ms after (Ok v) =
-    (cells : List ℕ) → AtStage L cells m 0 ns rows → Closed L cells m code ms after
-Carried L m code ns capacity rows ms after (Err e) =
-    (number_of e ≡ 6) × ((cells : List ℕ) → AtStage L cells m 0 ns rows → capacity < length (below L cells code))

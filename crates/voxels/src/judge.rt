@@ -4,26 +4,26 @@ ghost use Rattle.voxels.specs.Judges.{Judged};
 
 use crate::judge::count::size_of;
 use crate::judge::order::met_after;
-use crate::judge::records::all_fit;
-use crate::walk::root_of;
-use cells::levels::Levels;
+use crate::list::HallList;
 use nodes::pool::NodePool;
 
 mod count;
 mod order;
 mod records;
 
-// The number of cells of the set that seals to the pool's list, or absent if no set does.
-pub(crate) fn cells_of<P: NodePool>(pool: &P, levels: Levels) -> Option<u64>
-    ensures { Judged levels.count (P.NodePool.nodes pool.now) result }
-{
-    if !all_fit(pool, levels) {
-        return None;
+impl<P: NodePool> HallList<'_, P> {
+    // The number of cells of the set that seals to the list, or absent if no set does.
+    pub(crate) fn cells(&self) -> Option<u64>
+        ensures { Judged self.now.levels.count (P.NodePool.nodes self.now.pool.now) result }
+    {
+        if !self.all_fit() {
+            return None;
+        }
+        if self.pool.count() == 0 {
+            return Some(0);
+        }
+        let root = self.root()?;
+        let _all = met_after(self.pool, self.levels.count, root, 0)?;
+        Some(size_of(self.pool, self.levels.count, root))
     }
-    if pool.count() == 0 {
-        return Some(0);
-    }
-    let root = root_of(pool, levels)?;
-    let _all = met_after(pool, levels.count, root, 0)?;
-    Some(size_of(pool, levels.count, root))
 }

@@ -7,6 +7,7 @@ mod child;
 mod close;
 pub mod found;
 mod judge;
+mod list;
 pub mod map;
 pub mod phase;
 mod plain;

@@ -17,10 +17,10 @@ ghost use Rattle.voxels.specs.Tells.{looked, LookTells, PlaceEarly, PlaceTells, 
 use crate::child::Child;
 use crate::close::closed_rows;
 use crate::found::Found;
+use crate::list::HallList;
 use crate::phase::Phase;
 use crate::plain::Plain;
 use crate::row::{OpenRow, ROWS};
-use crate::walk::rank_of;
 use cells::hall::Cell;
 use cells::levels::Levels;
 use cells::refusal::Refusal;
@@ -129,7 +129,11 @@ impl<P: NodePool, S: TagStore, K: TagKind> Map<P, S, K> {
     fn found_at(&self, levels: Levels, code: u32) -> Option<Found<K>>
         ensures { result ≡ shows K.TagKind.reading (S.TagStore.words self.now.store) (found levels.count (P.NodePool.nodes self.now.pool) code) }
     {
-        let rank = rank_of(&self.pool, levels, code)?;
+        let list = HallList {
+            pool: &self.pool,
+            levels,
+        };
+        let rank = list.rank_of(code)?;
         let word = self.store.word(rank as usize)?;
         K::read(word).map(|tag| Found { rank, tag })
     }

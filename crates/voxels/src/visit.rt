@@ -6,10 +6,9 @@ ghost use Rattle.cells.specs.declared.boxes.CellBox.{CellBox};
 ghost use Rattle.voxels.specs.Visiting.{shrunk, shrunk_box, child_place, Near, Ready, Visits, Nothing};
 
 use crate::child::Child;
-use crate::walk::{root_of, step_to};
+use crate::list::{Branch, HallList};
 use cells::boxes::CellBox;
 use cells::hall::Cell;
-use cells::levels::Levels;
 use nodes::pool::NodePool;
 
 // A sub-cube by its level and its place, counted along each axis in sub-cubes of its level; its record,
@@ -22,18 +21,20 @@ pub(crate) struct Visit {
     pub(crate) rank: u64,
 }
 
-// The visit to the whole hall, or absent where the list has no root.
-pub(crate) fn root_visit<P: NodePool>(pool: &P, levels: Levels) -> Option<Visit>
-    ensures ready { IfSome result (λ visit. Ready (P.NodePool.nodes pool.now) visit × (visit.level ≡ levels.count)) }
-    ensures visits { (bounds : CellBox) → cell_fits levels.count bounds.low ≡ true → MatchOption result (Nothing levels.count (P.NodePool.nodes pool.now) bounds levels.count 0) (λ visit. Visits levels.count (P.NodePool.nodes pool.now) bounds 0 visit) }
-{
-    let node = root_of(pool, levels)?;
-    Some(Visit {
-        level: levels.count,
-        at: Cell { x: 0, y: 0, z: 0 },
-        node,
-        rank: 0,
-    })
+impl<P: NodePool> HallList<'_, P> {
+    // The visit to the whole hall, or absent where the list has no root.
+    pub(crate) fn root_visit(&self) -> Option<Visit>
+        ensures ready { IfSome result (λ visit. Ready (P.NodePool.nodes self.now.pool.now) visit × (visit.level ≡ self.now.levels.count)) }
+        ensures visits { (bounds : CellBox) → cell_fits self.now.levels.count bounds.low ≡ true → MatchOption result (Nothing self.now.levels.count (P.NodePool.nodes self.now.pool.now) bounds self.now.levels.count 0) (λ visit. Visits self.now.levels.count (P.NodePool.nodes self.now.pool.now) bounds 0 visit) }
+    {
+        let node = self.root()?;
+        Some(Visit {
+            level: self.levels.count,
+            at: Cell { x: 0, y: 0, z: 0 },
+            node,
+            rank: 0,
+        })
+    }
 }
 
 // The place of the sub-cube of level k that a cell lies in.
@@ -89,7 +90,12 @@ pub(crate) fn child_visit<P: NodePool>(
     if !meets(bounds, level, at) {
         return None;
     }
-    let taken = step_to(pool, visit.node, level, child)?;
+    let branch = Branch {
+        pool,
+        below: level,
+        n: visit.node,
+    };
+    let taken = branch.step_to(child)?;
     Some(Visit {
         level,
         at,

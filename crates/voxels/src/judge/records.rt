@@ -7,51 +7,52 @@ ghost use Rattle.dag.specs.Judged.{NodePasses};
 ghost use Rattle.dag.specs.Checks.{ChildRight, LinkRight, PassTo};
 
 use crate::child::Child;
-use crate::judge::count::cells_in;
-use cells::levels::Levels;
+use crate::list::{Branch, HallList};
 use nodes::node::{CHILDREN, NONE, Node};
 use nodes::pool::NodePool;
 use nodes::tail::find;
 
-// Whether the link to a child of record n of level k + 1 is right: a cell has none, and any other child is an earlier record of level k.
-fn link_fits<P: NodePool>(pool: &P, k: u32, n: usize, link: u16) -> bool
-    ensures { Decides result (LinkRight (P.NodePool.nodes pool.now) k n link) }
-{
-    if k == 0 {
-        return link == NONE;
-    }
-    let to = usize::from(link);
-    to < n && u32::from(pool.level_at(to)) == k
-}
-
-// Whether link and offset of a child of record n of level k + 1 are right, where so many cells are under the children before.
-fn child_fits<P: NodePool>(pool: &P, k: u32, n: usize, child: Child, before: u64) -> bool
-    requires { before ≡ size_before (P.NodePool.nodes pool.now) k n child.i }
-    ensures { Decides result (ChildRight (P.NodePool.nodes pool.now) k n child.i) }
-{
-    let link = pool.link_at(n, child.i);
-    let offset = u64::from(pool.offset_at(n, child.i));
-    if child.is_in(pool.mask_at(n)) {
-        offset == before && link_fits(pool, k, n, link)
-    } else {
-        offset == 0 && link == NONE
-    }
-}
-
-// Whether all links and offsets of record n of level k + 1 are right, where the records before it pass.
-fn children_fit<P: NodePool>(pool: &P, k: u32, n: usize) -> bool
-    requires { (k ≤ 10) × ((n < length (P.NodePool.nodes pool.now)) × (((L : ℕ) × PassTo L (P.NodePool.nodes pool.now) n))) }
-    ensures { Decides result ((i : ℕ) → i < 8 → ChildRight (P.NodePool.nodes pool.now) k n i) }
-{
-    let mut before = 0;
-    for i in 0..CHILDREN {
-        let child = Child { i };
-        if !child_fits(pool, k, n, child, before) {
-            return false;
+impl<P: NodePool> Branch<'_, P> {
+    // Whether the link to a child is right: a cell has none, and any other child is an earlier record of the level below.
+    fn link_fits(&self, link: u16) -> bool
+        ensures { Decides result (LinkRight (P.NodePool.nodes self.now.pool.now) self.now.below self.now.n link) }
+    {
+        if self.below == 0 {
+            return link == NONE;
         }
-        before += cells_in(pool, k, n, child);
+        let to = usize::from(link);
+        to < self.n && u32::from(self.pool.level_at(to)) == self.below
     }
-    true
+
+    // Whether link and offset of a child are right, where so many cells are under the children before.
+    fn child_fits(&self, child: Child, before: u64) -> bool
+        requires { before ≡ size_before (P.NodePool.nodes self.now.pool.now) self.now.below self.now.n child.i }
+        ensures { Decides result (ChildRight (P.NodePool.nodes self.now.pool.now) self.now.below self.now.n child.i) }
+    {
+        let link = self.pool.link_at(self.n, child.i);
+        let offset = u64::from(self.pool.offset_at(self.n, child.i));
+        if child.is_in(self.pool.mask_at(self.n)) {
+            offset == before && self.link_fits(link)
+        } else {
+            offset == 0 && link == NONE
+        }
+    }
+
+    // Whether all links and offsets are right, where the records before it pass.
+    fn children_fit(&self) -> bool
+        requires { (self.now.below ≤ 10) × ((self.now.n < length (P.NodePool.nodes self.now.pool.now)) × (((L : ℕ) × PassTo L (P.NodePool.nodes self.now.pool.now) self.now.n))) }
+        ensures { Decides result ((i : ℕ) → i < 8 → ChildRight (P.NodePool.nodes self.now.pool.now) self.now.below self.now.n i) }
+    {
+        let mut before = 0;
+        for i in 0..CHILDREN {
+            let child = Child { i };
+            if !self.child_fits(child, before) {
+                return false;
+            }
+            before += self.cells_in(child);
+        }
+        true
+    }
 }
 
 // What the types of a record's parts say of it: a mask of eight bits, eight links and eight offsets.
@@ -68,37 +69,44 @@ fn stands_alone<P: NodePool>(pool: &P, node: &Node, n: usize) -> bool
     find(pool, node, 0).unwrap_or(pool.count()) == n
 }
 
-// Whether record n is right, where the records before it are: its level and its mask, its links and offsets, and no lower record equals it.
-fn record_fits<P: NodePool>(pool: &P, levels: Levels, n: usize) -> bool
-    requires { (n < length (P.NodePool.nodes pool.now)) × (PassTo levels.count (P.NodePool.nodes pool.now) n) }
-    ensures { Decides result (NodePasses levels.count (P.NodePool.nodes pool.now) n) }
-{
-    let node = pool.read(n);
-    shaped(node.mask, &node.links, &node.offsets);
-    let level = u32::from(node.level);
-    if level == 0 {
-        return false;
-    }
-    if level > levels.count {
-        return false;
-    }
-    if node.mask == 0 {
-        return false;
-    }
-    if !children_fit(pool, level - 1, n) {
-        return false;
-    }
-    stands_alone(pool, &node, n)
-}
-
-// Whether all records are right.
-pub(super) fn all_fit<P: NodePool>(pool: &P, levels: Levels) -> bool
-    ensures { Decides result (PassTo levels.count (P.NodePool.nodes pool.now) (length (P.NodePool.nodes pool.now))) }
-{
-    for n in 0..pool.count() {
-        if !record_fits(pool, levels, n) {
+impl<P: NodePool> HallList<'_, P> {
+    // Whether record n is right, where the records before it are: its level and its mask, its links and offsets, and no lower record equals it.
+    fn record_fits(&self, n: usize) -> bool
+        requires { (n < length (P.NodePool.nodes self.now.pool.now)) × (PassTo self.now.levels.count (P.NodePool.nodes self.now.pool.now) n) }
+        ensures { Decides result (NodePasses self.now.levels.count (P.NodePool.nodes self.now.pool.now) n) }
+    {
+        let node = self.pool.read(n);
+        shaped(node.mask, &node.links, &node.offsets);
+        let level = u32::from(node.level);
+        if level == 0 {
             return false;
         }
+        if level > self.levels.count {
+            return false;
+        }
+        if node.mask == 0 {
+            return false;
+        }
+        let branch = Branch {
+            pool: self.pool,
+            below: level - 1,
+            n,
+        };
+        if !branch.children_fit() {
+            return false;
+        }
+        stands_alone(self.pool, &node, n)
     }
-    true
+
+    // Whether all records are right.
+    pub(super) fn all_fit(&self) -> bool
+        ensures { Decides result (PassTo self.now.levels.count (P.NodePool.nodes self.now.pool.now) (length (P.NodePool.nodes self.now.pool.now))) }
+    {
+        for n in 0..self.pool.count() {
+            if !self.record_fits(n) {
+                return false;
+            }
+        }
+        true
+    }
 }

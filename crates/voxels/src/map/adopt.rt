@@ -6,7 +6,7 @@ ghost use Rattle.voxels.specs.Phases.{refused_by, void_by};
 ghost use Rattle.voxels.specs.Shown.{shown};
 ghost use Rattle.voxels.specs.Shown.{ShowsSealed};
 
-use crate::judge::cells_of;
+use crate::list::HallList;
 use crate::map::Map;
 use crate::phase::Phase;
 use crate::plain::Plain;
@@ -29,7 +29,7 @@ impl<P: NodePool, S: TagStore, K: TagKind> Map<P, S, K> {
         ensures { Verdict K.TagKind.reading levels (P.NodePool.nodes pool.now) (S.TagStore.words store.now) (refused_by result) }
     {
         let levels = Levels::try_from(levels)?;
-        let cells = cells_of(pool, levels).ok_or(Refusal::NotSealed)?;
+        let cells = HallList { pool, levels }.cells().ok_or(Refusal::NotSealed)?;
         if store.count() as u64 != cells || !Self::all_tags(store) {
             return Err(Refusal::TagsUnfit);
         }

@@ -5,7 +5,7 @@ ghost use Rattle.voxels.specs.Shown.{shown, Refused};
 ghost use Rattle.voxels.specs.Retags.{Changes, RetagTells, retag_answer};
 
 use super::Map;
-use crate::walk::rank_of;
+use crate::list::HallList;
 use cells::hall::Cell;
 use cells::refusal::Refusal;
 use nodes::pool::NodePool;
@@ -22,7 +22,11 @@ impl<P: NodePool, S: TagStore, K: TagKind> Map<P, S, K> {
     {
         let levels = self.plain.sealed()?;
         let code = levels.code_of(cell)?;
-        let rank = rank_of(&self.pool, levels, code).ok_or(Refusal::NothingThere)?;
+        let list = HallList {
+            pool: &self.pool,
+            levels,
+        };
+        let rank = list.rank_of(code).ok_or(Refusal::NothingThere)?;
         self.store.change(rank as usize, tag.word())
     }
 }

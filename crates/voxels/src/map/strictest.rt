@@ -7,9 +7,9 @@ ghost use Rattle.voxels.specs.Strict.{IsStrictest, StrictestTells, strictest_ans
 ghost use Rattle.voxels.specs.Sweeps.{look_at};
 
 use super::Map;
+use crate::list::HallList;
 use crate::strictest::Strictest;
 use crate::sweep::sweep;
-use crate::visit::root_visit;
 use cells::boxes::CellBox;
 use cells::hall::Cell;
 use cells::levels::Levels;
@@ -29,7 +29,11 @@ impl<P: NodePool, S: TagStore, K: RankedKind> Map<P, S, K> {
             cells: 0,
             tag: None,
         };
-        if let Some(root) = root_visit(&self.pool, levels) {
+        let list = HallList {
+            pool: &self.pool,
+            levels,
+        };
+        if let Some(root) = list.root_visit() {
             sweep(&self.pool, &self.store, bounds, root, &mut best);
         }
         best

@@ -1,6 +1,5 @@
-use Rattle.std.proofs.Common.{◌≡◌, IfOk, string_bytes, ap, ◌∙◌, subst, arith}
+use Rattle.std.proofs.Common.{◌≡◌, IfOk, string_bytes, subst, arith}
 use Rattle.cells.specs.Refusals.{gives, refuses, number_of}
-use Rattle.locate.specs.Report.{refusal_line}
 use Rattle.locate.proofs.Fields.{cut_more}
 use Rattle.locate.proofs.Endings.{report_is}
 use Rattle.locate.proofs.report.report.Goals as goal

@@ -1,6 +1,5 @@
 use Rattle.std.proofs.Common.{◌≡◌, ◌+◌, ◌^◌, ◌<◌, sym, ap, ◌∙◌, subst, arith}
 use Rattle.cells.specs.Hall.{code_of, cell_at, CodeBits}
-use Rattle.cells.specs.declared.hall.Cell.{Cell}
 use Rattle.cells.proofs.Digits.{digits_none}
 use Rattle.cells.proofs.Codes.{code_digit, code_more, code_fits, code_below, code_bits, code_back, cell_fits_lem}
 use Rattle.cells.proofs.levels.Levels.interleave.Goals as goal

@@ -5,7 +5,7 @@ use Rattle.cells.specs.Refusals.{answer}
 use Rattle.nodes.specs.Records.{none}
 use Rattle.voxels.specs.Retags.{Changes, retag_answer}
 use Rattle.voxels.specs.Shown.{shown}
-use Rattle.voxels.proofs.Retagging.{changed_by, retag_by, with_words}
+use Rattle.voxels.proofs.Retagging.{answered_by, changed_by, retag_by, with_words}
 use Rattle.voxels.proofs.map.Map.retag.Goals as goal
 
 pub returns-in_err-rank-clause-tells : goal.returns-in_err-rank-clause-tells
@@ -24,9 +24,10 @@ returns-clause-tells g c =
     let here = shown g.P.NodePool g.S.TagStore m in
     let after = with_words here (g.S.TagStore.words c.change.new.self) (g.S.TagStore.admits c.change.new.self) in
     let few : length (g.P.NodePool.nodes m.pool) ≤ none = omega (arith, g.P.NodePool.within m.pool, g.P.NodePool.bounded m.pool) in
-    let word = g.K.TagKind.word_of c.args.tag in
-    let e : answer c.change.result ≡ retag_answer here c.args.cell word = grind (arith, common_steps) in
-    retag_by g.K.TagKind.word_of here after c.args.cell c.args.tag _ m.plain.fit few e
-    (subst (λ w. Changes c.args.cell w here after (answer c.change.result)) c.word.ensures
-    (changed_by here c.args.cell c.word.result c.in_ok-levels.levels.count c.in_ok-code.code c.in_ok-rank.rank _ _ _ c.in_ok-levels.ensures c.in_ok-code.ensures.value
-    (sym (c.ok_or.ensures.ok_part ∙ ap result_ok c.in_ok-rank.was) ∙ c.rank_of.ensures) c.change.ensures.answer c.change.ensures.words c.change.ensures.rule))
+    let rank = sym (c.ok_or.ensures.ok_part ∙ ap result_ok c.in_ok-rank.was) ∙ c.rank_of.ensures in
+    let a = answer c.change.result in
+    retag_by g.K.TagKind.word_of here after c.args.cell c.args.tag a m.plain.fit few
+    (subst (λ w. a ≡ retag_answer here c.args.cell w) c.word.ensures
+    (answered_by here c.args.cell c.word.result _ c.in_ok-code.code c.in_ok-rank.rank a c.in_ok-levels.ensures c.in_ok-code.ensures.value rank c.change.ensures.answer))
+    (subst (λ w. Changes c.args.cell w here after a) c.word.ensures
+    (changed_by here c.args.cell c.word.result _ c.in_ok-code.code c.in_ok-rank.rank a c.in_ok-levels.ensures c.in_ok-code.ensures.value rank c.change.ensures.answer _ _ c.change.ensures.words c.change.ensures.rule))
