@@ -1,129 +1,69 @@
 // The list of the hall of 2 levels with the cells 0, 8 and 17, damaged in one field: it is refused with 9,
 // unless it is the list that the cells it marks seal to.
-use cells::hall::Cell;
+use crate::adopted::adopted;
 use cells::refusal::Refusal;
 use nodes::node::{NONE, Node};
-use nodes::pool::NodePool;
 use nodes::row_pool::RowPool;
 use std::process::Abort;
 use std::test::Fail;
 use tags::flat::FlatStore;
 use tags::speed::Speed;
-use tags::store::TagStore;
 use voxels::map::Map;
 
 type Three = [Node; 3];
 
-// A record without links.
-fn leaf(mask: u8) -> Node {
-    Node {
-        level: 1,
-        mask,
-        links: [NONE; 8],
-        offsets: [0; 8],
-    }
-}
-
 // The sealed list.
 fn sound() -> Three {
+    let leaf = Node {
+        level: 1,
+        links: [NONE; 8],
+        ..Node::blank()
+    };
     let root = Node {
         level: 2,
         mask: 7,
         links: [0, 0, 1, NONE, NONE, NONE, NONE, NONE],
         offsets: [0, 1, 2, 0, 0, 0, 0, 0],
     };
-    [leaf(1), leaf(2), root]
+    [Node { mask: 1, ..leaf }, Node { mask: 2, ..leaf }, root]
+}
+
+// Whether a mask marks a child.
+fn has(mask: u8, child: u32) -> bool {
+    (mask >> (child % 8)) % 2 == 1
 }
 
 // Whether the list marks a code: a plain walk.
 fn marks(list: &Three, code: u32) -> bool {
-    let root = list[2];
+    let [first, second, root] = *list;
     let child = code / 8 % 8;
-    if root.level != 2 || (root.mask >> child) % 2 == 0 {
-        return false;
-    }
-    let links = root.links;
-    let next = links[child as usize] as usize;
-    if next >= 2 {
-        return false;
-    }
-    let below = list[next];
-    below.level == 1 && (below.mask >> (code % 8)) % 2 == 1
+    let link = usize::from(root.links[child as usize]);
+    root.level == 2
+        && has(root.mask, child)
+        && [first, second]
+            .get(link)
+            .is_some_and(|leaf| leaf.level == 1 && has(leaf.mask, code % 8))
 }
 
 // Whether the cells that the list marks seal to it.
-fn sealed_again<P: NodePool + Drop, S: TagStore + Drop>(
-    list: &Three,
-    pool: P,
-    store: S,
-) -> Result<bool, Fail> {
-    let tag = Speed::new(0)?;
-    let mut map: Map<P, S, Speed> = Map::open(2, pool, store);
-    for code in 0..64 {
-        if marks(list, code) {
-            map.place(code, tag)?;
-        }
+fn sealed_again(list: &Three) -> Result<bool, Refusal> {
+    let mut rows = [Node::blank(); 9];
+    let mut words = [0; 64];
+    let mut map = Map::open(2, RowPool::empty(&mut rows), FlatStore::new(&mut words));
+    for code in (0..64).filter(|code| marks(list, *code)) {
+        map.place(code, Speed::new(0)?)?;
     }
     map.seal()?;
-    Ok(
-        map.node_count() == 3
-            && map.node(0) == list[0]
-            && map.node(1) == list[1]
-            && map.node(2) == list[2],
-    )
+    Ok(map.node_count() == list.len() && (0..list.len()).all(|n| map.node(n) == list[n]))
 }
 
-// Whether adopt takes the list, whatever it says of the tags.
-fn taken<P: NodePool + Drop, S: TagStore + Drop>(pool: P, store: S) -> bool {
-    let map: Map<P, S, Speed> = Map::adopt(2, pool, store);
-    match map.look(Cell { x: 0, y: 0, z: 0 }) {
-        Err(Refusal::NotSealed) => false,
-        _ => true,
-    }
-}
-
-// Adopt takes the list exactly if the cells that it marks seal to it.
+// Adopt takes the list exactly if the cells that it marks seal to it, whatever it says of the tags.
 fn judged_right(rt: &impl Abort, list: &Three) -> Result<bool, Fail> {
-    let mut rows = [Node::blank(); 9];
-    let mut numbers = [0; 64];
-    let again = sealed_again(
-        list,
-        RowPool::empty(&mut rows),
-        FlatStore::new(&mut numbers),
-    )?;
     let mut given = *list;
-    let mut words = [0; 1];
-    let answer = taken(RowPool::over(&mut given, 3), FlatStore::new(&mut words));
-    assert_eq!(rt; answer, again);
-    Ok(answer)
-}
-
-fn with_link(node: Node, i: usize, link: u16) -> Node {
-    let mut links = node.links;
-    if i < 8 {
-        links[i] = link;
-    }
-    let offsets = node.offsets;
-    Node {
-        level: node.level,
-        mask: node.mask,
-        links,
-        offsets,
-    }
-}
-
-fn with_offset(node: Node, i: usize, offset: u32) -> Node {
-    let mut offsets = node.offsets;
-    if i < 8 {
-        offsets[i] = offset;
-    }
-    let links = node.links;
-    Node {
-        level: node.level,
-        mask: node.mask,
-        links,
-        offsets,
-    }
+    let verdict = adopted(2, RowPool::over(&mut given, 3), FlatStore::new(&mut [0; 1]));
+    let taken = verdict != Err(Refusal::NotSealed);
+    assert_eq!(rt; taken, sealed_again(list)?);
+    Ok(taken)
 }
 
 #[test]
@@ -135,12 +75,12 @@ fn the_sound_list(rt: HostRuntime) -> Result<(), Fail> {
 #[test]
 fn any_level_or_mask(rt: HostRuntime) -> Result<(), Fail> {
     for n in 0..3 {
-        for value in 0..256u16 {
+        for value in 0..=u8::MAX {
             let mut list = sound();
-            list[n].level = value as u8;
+            list[n].level = value;
             let _ = judged_right(&rt, &list)?;
             let mut other = sound();
-            other[n].mask = value as u8;
+            other[n].mask = value;
             let _ = judged_right(&rt, &other)?;
         }
     }
@@ -149,18 +89,16 @@ fn any_level_or_mask(rt: HostRuntime) -> Result<(), Fail> {
 
 #[test]
 fn some_links_and_offsets(rt: HostRuntime) -> Result<(), Fail> {
-    let links = [0, 1, 2, 3, 4, 255, 256, 32768, 65534, NONE];
-    let offsets = [0, 1, 2, 3, 8, 255, 65536, 1 << 31, u32::MAX];
     for n in 0..3 {
         for i in 0..8 {
-            for link in links {
+            for link in [0, 1, 2, 3, 4, 255, 256, 32768, 65534, NONE] {
                 let mut list = sound();
-                list[n] = with_link(list[n], i, link);
+                list[n].links[i] = link;
                 let _ = judged_right(&rt, &list)?;
             }
-            for offset in offsets {
+            for offset in [0, 1, 2, 3, 8, 255, 65536, 1 << 31, u32::MAX] {
                 let mut list = sound();
-                list[n] = with_offset(list[n], i, offset);
+                list[n].offsets[i] = offset;
                 let _ = judged_right(&rt, &list)?;
             }
         }
@@ -172,14 +110,17 @@ fn some_links_and_offsets(rt: HostRuntime) -> Result<(), Fail> {
 #[test]
 fn other_orders(rt: HostRuntime) -> Result<(), Fail> {
     let [first, second, root] = sound();
-    let crossed = with_link(with_link(with_link(root, 0, 1), 1, 1), 2, 0);
-    assert!(rt; !judged_right(&rt, &[second, first, crossed])?);
+    let linked = |a, b, c| Node {
+        links: [a, b, c, NONE, NONE, NONE, NONE, NONE],
+        ..root
+    };
+    assert!(rt; !judged_right(&rt, &[second, first, linked(1, 1, 0)])?);
     assert!(rt;
         judged_right(&rt, &[second, first, root])?,
         "the list of the cells 1, 9 and 16"
     );
     assert!(rt; !judged_right(&rt, &[first, root, second])?);
     assert!(rt; !judged_right(&rt, &[first, first, root])?);
-    assert!(rt; !judged_right(&rt, &[first, second, with_link(root, 2, 0)])?);
+    assert!(rt; !judged_right(&rt, &[first, second, linked(0, 0, 0)])?);
     Ok(())
 }

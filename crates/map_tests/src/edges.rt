@@ -21,7 +21,7 @@ fn last_code<P: NodePool + Drop, S: TagStore + Drop>(
     pool: P,
     store: S,
 ) -> Result<(), Fail> {
-    let mut map: Map<P, S, Speed> = Map::open(2, pool, store);
+    let mut map = Map::open(2, pool, store);
     let tag = Speed::new(500)?;
     assert_eq!(rt; map.place(63, tag), Ok(()));
     assert_eq!(rt; map.place(64, tag), Err(Refusal::Outside));
@@ -34,19 +34,19 @@ fn last_code<P: NodePool + Drop, S: TagStore + Drop>(
 
 #[test]
 fn last_code_over_rows(rt: HostRuntime) -> Result<(), Fail> {
-    let mut rows = [Node::blank(); 2];
-    let mut numbers = [0; 2];
-    last_code(&rt, RowPool::empty(&mut rows), FlatStore::new(&mut numbers))
+    last_code(
+        &rt,
+        RowPool::empty(&mut [Node::blank(); 2]),
+        FlatStore::new(&mut [0; 2]),
+    )
 }
 
 #[test]
 fn last_code_over_bytes(rt: HostRuntime) -> Result<(), Fail> {
-    let mut bytes = [0; 100];
-    let mut blocks = [Block::blank()];
     last_code(
         &rt,
-        BytePool::empty(&mut bytes),
-        PaletteStore::new(&mut blocks),
+        BytePool::empty(&mut [0; 100]),
+        PaletteStore::new(&mut [Block::blank()]),
     )
 }
 
@@ -56,7 +56,7 @@ fn one_record<P: NodePool + Drop, S: TagStore + Drop>(
     pool: P,
     store: S,
 ) -> Result<(), Fail> {
-    let mut map: Map<P, S, Label> = Map::open(2, pool, store);
+    let mut map = Map::open(2, pool, store);
     let tag = Label::new(7)?;
     assert_eq!(rt; map.place(0, tag), Ok(()));
     assert_eq!(rt; map.place(8, tag), Ok(()));
@@ -71,19 +71,19 @@ fn one_record<P: NodePool + Drop, S: TagStore + Drop>(
 
 #[test]
 fn one_record_over_rows(rt: HostRuntime) -> Result<(), Fail> {
-    let mut rows = [Node::blank(); 1];
-    let mut numbers = [0; 8];
-    one_record(&rt, RowPool::empty(&mut rows), FlatStore::new(&mut numbers))
+    one_record(
+        &rt,
+        RowPool::empty(&mut [Node::blank(); 1]),
+        FlatStore::new(&mut [0; 8]),
+    )
 }
 
 #[test]
 fn one_record_over_bytes(rt: HostRuntime) -> Result<(), Fail> {
-    let mut bytes = [0; 99];
-    let mut blocks = [Block::blank()];
     one_record(
         &rt,
-        BytePool::empty(&mut bytes),
-        PaletteStore::new(&mut blocks),
+        BytePool::empty(&mut [0; 99]),
+        PaletteStore::new(&mut [Block::blank()]),
     )
 }
 
@@ -93,7 +93,7 @@ fn no_room<P: NodePool + Drop, S: TagStore + Drop>(
     pool: P,
     store: S,
 ) -> Result<(), Fail> {
-    let mut map: Map<P, S, Speed> = Map::open(1, pool, store);
+    let mut map = Map::open(1, pool, store);
     let tag = Speed::new(0)?;
     assert_eq!(rt; map.place(0, tag), Ok(()));
     assert_eq!(rt; map.place(1, tag), Err(Refusal::StoreFull));
@@ -104,9 +104,11 @@ fn no_room<P: NodePool + Drop, S: TagStore + Drop>(
 
 #[test]
 fn no_room_for_a_word_or_a_record(rt: HostRuntime) -> Result<(), Fail> {
-    let mut rows = [Node::blank(); 0];
-    let mut numbers = [0; 1];
-    no_room(&rt, RowPool::empty(&mut rows), FlatStore::new(&mut numbers))
+    no_room(
+        &rt,
+        RowPool::empty(&mut [Node::blank(); 0]),
+        FlatStore::new(&mut [0; 1]),
+    )
 }
 
 // A void map says the same to everything.
@@ -116,36 +118,24 @@ fn void<P: NodePool + Drop, S: TagStore + Drop>(
     pool: P,
     store: S,
 ) -> Result<(), Fail> {
-    let mut map: Map<P, S, Speed> = Map::open(levels, pool, store);
+    let mut map = Map::open(levels, pool, store);
     let tag = Speed::new(0)?;
     let far = Cell { x: 9, y: 9, z: 9 };
     assert_eq!(rt; map.place(9999, tag), Err(Refusal::Levels));
     assert_eq!(rt; map.seal(), Err(Refusal::Levels));
-    match map.look(far) {
-        Ok(_) => Err(Fail::new("looked into a void map")),
-        Err(refusal) => {
-            assert_eq!(rt; refusal, Refusal::Levels);
-            Ok(())
-        },
-    }
+    assert_eq!(rt; map.look(far), Err(Refusal::Levels));
+    Ok(())
 }
 
 #[test]
 fn void_by_levels(rt: HostRuntime) -> Result<(), Fail> {
-    let mut rows = [Node::blank(); 1];
-    let mut numbers = [0; 1];
-    void(
-        &rt,
-        0,
-        RowPool::empty(&mut rows),
-        FlatStore::new(&mut numbers),
-    )?;
-    let mut more = [Node::blank(); 1];
-    let mut words = [0; 1];
-    void(
-        &rt,
-        11,
-        RowPool::empty(&mut more),
-        FlatStore::new(&mut words),
-    )
+    for levels in [0, 11] {
+        void(
+            &rt,
+            levels,
+            RowPool::empty(&mut [Node::blank(); 1]),
+            FlatStore::new(&mut [0; 1]),
+        )?;
+    }
+    Ok(())
 }

@@ -7,18 +7,16 @@ use nodes::row_pool::RowPool;
 use std::process::Abort;
 use std::test::Fail;
 use tags::flat::FlatStore;
-use tags::kind::TagKind;
 use tags::load::Load;
 use tags::store::TagStore;
 use voxels::map::Map;
 
 // The three-record hall with loads in zones; its words need all three bytes.
-fn fill<P: NodePool, S: TagStore>(map: &mut Map<P, S, Load>) -> Result<(), Fail> {
-    map.place(0, Load::new(6300, 255)?)?;
-    map.place(8, Load::new(0, 0)?)?;
-    map.place(17, Load::new(258, 1)?)?;
-    map.seal()?;
-    Ok(())
+fn fill<P: NodePool, S: TagStore>(map: &mut Map<P, S, Load>) -> Result<(), Refusal> {
+    for (code, load, zone) in [(0, 6300, 255), (8, 0, 0), (17, 258, 1)] {
+        map.place(code, Load::new(load, zone)?)?;
+    }
+    map.seal()
 }
 
 // A buffer one byte too short is refused and stays as it was; longer ones keep what lies behind.
@@ -27,7 +25,7 @@ fn write_edges<P: NodePool + Drop, S: TagStore + Drop>(
     pool: P,
     store: S,
 ) -> Result<(), Fail> {
-    let mut map: Map<P, S, Load> = Map::open(2, pool, store);
+    let mut map = Map::open(2, pool, store);
     let mut nodes = [7; 152];
     let mut tags = [7; 10];
     assert_eq!(rt; map.write(&mut nodes, &mut tags), Err(Refusal::State));
@@ -66,7 +64,9 @@ fn same_records<P: NodePool, S: TagStore>(
 
 #[test]
 fn written_and_read_back(rt: HostRuntime) -> Result<(), Fail> {
-    let mut rows = [Node::blank(); 4];
-    let mut numbers = [0; 4];
-    write_edges(&rt, RowPool::empty(&mut rows), FlatStore::new(&mut numbers))
+    write_edges(
+        &rt,
+        RowPool::empty(&mut [Node::blank(); 4]),
+        FlatStore::new(&mut [0; 4]),
+    )
 }

@@ -14,13 +14,5 @@ pub fn same_nodes<P: NodePool, S: TagStore, K: TagKind, Q: NodePool, T: TagStore
 ) -> bool
     ensures { Decides result ((shown P.NodePool S.TagStore a.now).nodes ≡ (shown Q.NodePool T.TagStore b.now).nodes) }
 {
-    if a.node_count() != b.node_count() {
-        return false;
-    }
-    for n in 0..a.node_count() {
-        if a.node(n) != b.node(n) {
-            return false;
-        }
-    }
-    true
+    a.node_count() == b.node_count() && (0..a.node_count()).all(|n| a.node(n) == b.node(n))
 }

@@ -7,29 +7,64 @@ use tags::speed::Speed;
 use tags::store::TagStore;
 use voxels::map::Map;
 
-// A press, a rack leg of the same shape beside it, and a column in the far corner.
-const CODES: [u32; 5] = [0, 8, 17, 56, 63];
-
-// Limits in mm/s, one for each cell. 0 is keep out.
-const LIMITS: [u32; 5] = [0, 500, 300, 500, 0];
-
-// Loads in steps of 10 kg, one for each cell, all in zone 4.
-const LOADS: [u32; 5] = [6300, 0, 120, 120, 2000];
-
-const ZONE: u32 = 4;
-
-// Places each cell with its limit and seals the map.
-pub fn slowed<P: NodePool, S: TagStore>(map: &mut Map<P, S, Speed>) -> Result<(), Refusal> {
-    for n in 0..CODES.len() {
-        map.place(CODES[n], Speed::new(LIMITS[n])?)?;
-    }
-    map.seal()
+// A cell, with its limit in mm/s (0 is keep out) and its load in steps of 10 kg.
+pub struct Spot {
+    code: u32,
+    limit: u32,
+    load: u32,
 }
 
-// Places each cell with its load and seals the map.
-pub fn loaded<P: NodePool, S: TagStore>(map: &mut Map<P, S, Load>) -> Result<(), Refusal> {
-    for n in 0..CODES.len() {
-        map.place(CODES[n], Load::new(LOADS[n], ZONE)?)?;
+// A press, a rack leg of the same shape beside it, and a column in the far corner.
+const SPOTS: [Spot; 5] = [
+    Spot {
+        code: 0,
+        limit: 0,
+        load: 6300,
+    },
+    Spot {
+        code: 8,
+        limit: 500,
+        load: 0,
+    },
+    Spot {
+        code: 17,
+        limit: 300,
+        load: 120,
+    },
+    Spot {
+        code: 56,
+        limit: 500,
+        load: 120,
+    },
+    Spot {
+        code: 63,
+        limit: 0,
+        load: 2000,
+    },
+];
+
+// The zone of every load.
+const ZONE: u32 = 4;
+
+impl Spot {
+    pub fn speed(&self) -> Result<Speed, Refusal> {
+        Speed::new(self.limit)
+    }
+
+    pub fn load(&self) -> Result<Load, Refusal> {
+        Load::new(self.load, ZONE)
+    }
+}
+
+// Places each cell with the tag that it gets in this kind, and seals the map.
+pub fn fill<P: NodePool, S: TagStore, K: TagKind, F: Fn(&Spot) -> Result<K, Refusal>>(
+    map: &mut Map<P, S, K>,
+    tag_of: F,
+) -> Result<(), Refusal>
+    requires { F.IsAlwaysCallable tag_of }
+{
+    for spot in &SPOTS {
+        map.place(spot.code, tag_of(spot)?)?;
     }
     map.seal()
 }

@@ -8,7 +8,7 @@ mod fill;
 mod show;
 
 use compare::same_nodes;
-use fill::{loaded, slowed};
+use fill::{Spot, fill};
 use nodes::byte_pool::BytePool;
 use nodes::node::Node;
 use nodes::pool::NodePool;
@@ -38,8 +38,8 @@ fn make_both<P: NodePool + Drop, S: TagStore + Drop, Q: NodePool + Drop, T: TagS
 ) -> io::Result<()> {
     let mut limits: Map<P, S, Speed> = Map::open(LEVELS, rows, numbers);
     let mut loads: Map<Q, T, Load> = Map::open(LEVELS, bytes, blocks);
-    print_answer(rt, "limits", slowed(&mut limits))?;
-    print_answer(rt, "loads", loaded(&mut loads))?;
+    print_answer(rt, "limits", fill(&mut limits, Spot::speed))?;
+    print_answer(rt, "loads", fill(&mut loads, Spot::load))?;
     print_nodes(rt, &limits)?;
     print_looks(rt, "limits", &limits)?;
     print_looks(rt, "loads", &loads)?;

@@ -1,20 +1,19 @@
 // What a map holds, as printed text.
 use cells::hall::Cell;
 use cells::refusal::Refusal;
+use nodes::node::Node;
 use nodes::pool::NodePool;
 use std::io;
 use tags::kind::TagKind;
 use tags::store::TagStore;
+use voxels::found::Found;
 use voxels::map::Map;
 
 // Prints how the making of a map ended.
 pub fn print_answer(rt: &HostRuntime, name: &str, answer: Result<(), Refusal>) -> io::Result<()> {
     match answer {
         Ok(()) => println!(rt; "{name}: sealed"),
-        Err(refusal) => {
-            let number = refusal.number();
-            println!(rt; "{name}: refused with {number}")
-        }
+        Err(refusal) => println!(rt; "{name}: refused with {refusal}"),
     }
 }
 
@@ -24,11 +23,12 @@ pub fn print_nodes<P: NodePool, S: TagStore, K: TagKind>(
     map: &Map<P, S, K>,
 ) -> io::Result<()> {
     for n in 0..map.node_count() {
-        let node = map.node(n);
-        let level = node.level;
-        let mask = node.mask;
-        let links = node.links;
-        let offsets = node.offsets;
+        let Node {
+            level,
+            mask,
+            links,
+            offsets,
+        } = map.node(n);
         println!(rt;
             "record {n}: level {level}, mask {mask}, links {links:?}, offsets {offsets:?}"
         )?;
@@ -48,17 +48,11 @@ pub fn print_looks<P: NodePool, S: TagStore, K: TagKind>(
             y: at,
             z: at,
         };
+        print!(rt; "{name} at ({at}, {at}, {at}): ")?;
         match map.look(cell) {
-            Ok(Some(found)) => {
-                let rank = found.rank;
-                let word = found.tag.word();
-                println!(rt; "{name} at ({at}, {at}, {at}): rank {rank}, word {word}")?;
-            }
-            Ok(None) => println!(rt; "{name} at ({at}, {at}, {at}): free")?,
-            Err(refusal) => {
-                let number = refusal.number();
-                println!(rt; "{name} at ({at}, {at}, {at}): refused with {number}")?;
-            }
+            Ok(Some(Found { rank, tag })) => println!(rt; "rank {rank}, word {}", tag.word())?,
+            Ok(None) => println!(rt; "free")?,
+            Err(refusal) => println!(rt; "refused with {refusal}")?,
         }
     }
     Ok(())
