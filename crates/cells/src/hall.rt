@@ -128,7 +128,7 @@ impl Levels {
     }
 }
 
-// The code of a cell of a hall of so many levels.
+// The code of a cell of a hall of so many levels. It, `cell_of` and `box_of` stay for callers with a plain number of levels.
 pub fn code_of(levels: u32, cell: Cell) -> Result<u32, Refusal>
     ensures value { answer result ≡ refuse_if (not (levels_fit levels)) 1 (refuse_if (not (cell_fits levels cell)) 3 (gives (code_of levels cell))) }
     ensures bits { IfOk result (λ n. CodeBits cell n) }

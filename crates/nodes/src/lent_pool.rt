@@ -11,6 +11,7 @@ use crate::pool::NodePool;
 use cells::refusal::Refusal;
 
 // The first `count` records of the places are the list. Behind them all is empty up to the capacity.
+// The count stands beside the places, since the unit has no heap for a list.
 #[derive(Drop)]
 pub struct Pool<'a, T: Place> {
     places: &'a mut [T],

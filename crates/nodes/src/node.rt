@@ -18,7 +18,8 @@ pub const NODE_BYTES: usize = 50;
 // A pool holds at most this many records, so that no record has the number of the link that leads nowhere.
 pub const MOST_NODES: usize = 65_535;
 
-// Bit i of the mask, link i and offset i are those of child i.
+// Bit i of the mask, link i and offset i are those of child i. Links and offsets are two lists and not eight pairs,
+// so that a record takes 52 bytes of the unit's memory and not 68.
 #[derive(Clone, Copy, PartialEq, Eq, Debug)]
 pub struct Node {
     pub level: u8,

@@ -59,7 +59,7 @@ pub trait Place: Copy {
     fn empty() -> Self
         ensures { result ≡ empty };
 
-    // The record that its places hold.
+    // The record that its places hold. They come as a slice: no array has an associated constant for its length.
     fn node(places: &[Self]) -> Node
         requires { length places.now ≡ WIDTH }
         ensures { result ≡ node_in places.now };

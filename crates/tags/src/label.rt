@@ -10,7 +10,7 @@ pub const FIRST_PLATE: u32 = 1;
 // The highest number of a plate.
 pub const LAST_PLATE: u32 = 65535;
 
-// The number of a plate.
+// The number of a plate. Labels and speeds are two types: one over both bounds would give plates an order.
 #[derive(Clone, Copy, PartialEq, Eq, Debug)]
 pub struct Label {
     plate: u16,

@@ -10,7 +10,7 @@ pub mod block;
 mod places;
 pub mod words;
 
-// Words over lent blocks, of which the first are in use.
+// Words over lent blocks, of which the first are in use. The count stands beside them, since the unit has no heap for a list.
 #[derive(Drop)]
 pub struct PaletteStore<'a> {
     blocks: &'a mut [Block],

@@ -12,7 +12,7 @@ pub(crate) struct Child {
 }
 
 impl Child {
-    // The child of its parent that a code's sub-cube of level k is.
+    // The child of its parent that a code's sub-cube of level k is. Levels down from a hall's are plain numbers: they count loops.
     pub(crate) fn of(k: u32, code: u32) -> Child
         requires { k ≤ 10 }
         ensures { result.i ≡ sub_cube k code % 8 }

@@ -76,6 +76,7 @@ pub(crate) fn closed_rows<P: NodePool>(
         if sub_cube(r + 1, last) == sub_cube(r + 1, code) {
             return Ok(left);
         }
+        // plainer than a `map_err` whose closure cuts the pool
         if let Err(refusal) = close_level(pool, &mut left, levels, r, last) {
             pool.cut(before);
             return Err(refusal);

@@ -171,6 +171,7 @@ impl<P: NodePool, S: TagStore, K: TagKind> Map<P, S, K> {
         ensures taken { OnOk result ((S.TagStore.words self.new.store ≡ S.TagStore.words self.old.store ++ K.TagKind.word_of tag ∷ []) × (self.new.pool ≡ self.old.pool) × (self.new.plain.phase ≡ self.old.plain.phase) × (self.new.plain.levels ≡ self.old.plain.levels) × (self.new.plain.last ≡ Some code) × CellTaken rows code self.new.plain.rows) }
         ensures refused { OnErr result ((S.TagStore.words self.new.store ≡ S.TagStore.words self.old.store) × (self.new.plain ≡ self.old.plain) × (P.NodePool.nodes self.new.pool ≡ take before (P.NodePool.nodes self.old.pool)) × (front (length (P.NodePool.nodes self.new.pool)) (P.NodePool.memory self.new.pool) ≡ front (length (P.NodePool.nodes self.new.pool)) (P.NodePool.memory self.old.pool))) }
     {
+        // plainer than a `map_err` whose closure cuts the pool
         if let Err(refusal) = self.store.add(tag.word()) {
             self.pool.cut(before);
             return Err(refusal);

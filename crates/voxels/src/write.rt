@@ -1,4 +1,4 @@
-// A map as bytes: its records into one buffer, its words into another.
+// A map as bytes: its records into one buffer, its words into another. Pools and stores are read by number, and so are the loops.
 ghost use Rattle.std.specs.Prelude.{◌≡◌, ◌*◌, ◌≤◌, ◌++◌, length, drop};
 ghost use Rattle.std.specs.List.{flat_map};
 ghost use Rattle.nodes.specs.Format.{bytes_of, node_bytes, read_nodes, written};

@@ -62,7 +62,8 @@ impl Block {
         search(&row, &word).or_else(|| self.free_place(used, i))
     }
 
-    // Puts a word at index i, beside the words of the first indices, if there is room.
+    // Puts a word at index i, beside the words of the first indices, if there is room. The two numbers are handed on as they
+    // are: a struct of both would be made once and taken apart at once.
     pub(super) fn put(&mut self, used: usize, i: usize, word: u32) -> Result<(), Refusal>
         requires { (used ≤ block_words) × (i < block_words) }
         ensures put { OnOk result (Put self.old self.new used i word) }

@@ -38,7 +38,7 @@ impl<P: NodePool> Branch<'_, P> {
         }
     }
 
-    // Whether all links and offsets are right, where the records before it pass.
+    // Whether all links and offsets are right, where the records before it pass. The sum so far makes it a loop.
     fn children_fit(&self) -> bool
         requires { (self.now.below ≤ 10) × ((self.now.n < length (P.NodePool.nodes self.now.pool.now)) × (((L : ℕ) × PassTo L (P.NodePool.nodes self.now.pool.now) self.now.n))) }
         ensures { Decides result ((i : ℕ) → i < 8 → ChildRight (P.NodePool.nodes self.now.pool.now) self.now.below self.now.n i) }
@@ -98,7 +98,7 @@ impl<P: NodePool> HallList<'_, P> {
         stands_alone(self.pool, &node, n)
     }
 
-    // Whether all records are right.
+    // Whether all records are right. Each check asks that the records before it passed, which no chain says of its calls.
     pub(super) fn all_fit(&self) -> bool
         ensures { Decides result (PassTo self.now.levels.count (P.NodePool.nodes self.now.pool.now) (length (P.NodePool.nodes self.now.pool.now))) }
     {
