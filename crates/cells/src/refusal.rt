@@ -4,42 +4,27 @@ ghost use Rattle.cells.specs.Refusals.{number_of};
 
 #[derive(Clone, Copy, PartialEq, Eq, Debug)]
 pub enum Refusal {
-    Levels,
-    State,
-    Outside,
-    NotAbove,
-    NothingThere,
-    PoolFull,
-    StoreFull,
-    CornersCrossed,
-    NotSealed,
-    TagsUnfit,
-    TagOutside,
-    BadLine,
-    TooManyBoxes,
-    BufferShort,
+    Levels = 1,
+    State = 2,
+    Outside = 3,
+    NotAbove = 4,
+    NothingThere = 5,
+    PoolFull = 6,
+    StoreFull = 7,
+    CornersCrossed = 8,
+    NotSealed = 9,
+    TagsUnfit = 10,
+    TagOutside = 11,
+    BadLine = 12,
+    TooManyBoxes = 13,
+    BufferShort = 14,
 }
 
 impl Refusal {
-    // The number under which the table lists the refusal.
+    // The number under which the table lists the refusal. `u8::from` gives it too; a report reads better with its name.
     pub fn number(self) -> u8
         ensures { result ≡ number_of self }
     {
-        match self {
-            Refusal::Levels => 1,
-            Refusal::State => 2,
-            Refusal::Outside => 3,
-            Refusal::NotAbove => 4,
-            Refusal::NothingThere => 5,
-            Refusal::PoolFull => 6,
-            Refusal::StoreFull => 7,
-            Refusal::CornersCrossed => 8,
-            Refusal::NotSealed => 9,
-            Refusal::TagsUnfit => 10,
-            Refusal::TagOutside => 11,
-            Refusal::BadLine => 12,
-            Refusal::TooManyBoxes => 13,
-            Refusal::BufferShort => 14,
-        }
+        self as u8
     }
 }

@@ -1,11 +1,11 @@
 // The one search: the lowest number of an entry of a row that equals a given one.
-ghost use Rattle.std.specs.Prelude.{◌≡◌, true, List, length};
+ghost use Rattle.std.specs.Prelude.{◌≡◌, true, List, length, Some, Decides};
 ghost use Rattle.std.proofs.Common.{rules};
 ghost use Rattle.std.specs.List.{slice_get};
 ghost use Rattle.cells.specs.Rows.{Lowest};
 
 // An entry that can be compared with another of its type. Only entries that are the same compare as equal.
-pub trait Entry: Eq + Copy {
+pub trait Entry: Eq + Drop {
     // entries that compare as equal are the same
     ghost same: { (a b : Self) → Self.eq a b ≡ true → a ≡ b };
 
@@ -32,14 +32,11 @@ pub trait Row {
 pub fn search<R: Row>(row: &R, wanted: &R::Item) -> Option<usize>
     ensures { Lowest (R.Row.entries row.now) wanted.now result }
 {
-    for n in 0..row.count() {
-        if let Some(found) = row.entry(n) {
-            if found == *wanted {
-                return Some(n);
-            }
-        }
-    }
-    None
+    (0..row.count()).find(
+        |&n|
+            ensures { Decides result (slice_get (R.Row.entries row.entry.now) n ≡ Some wanted.entry.now) }
+        { row.entry(n).is_some_and(|found| found == *wanted) },
+    )
 }
 
 impl Entry for u8 {
@@ -61,12 +58,12 @@ impl Entry for u32 {
 }
 
 // A slice as a row of its items.
-#[derive(Clone, Copy)]
+#[derive(Clone, Copy, PartialEq, Eq, Debug)]
 pub struct Items<'a, T> {
     pub items: &'a [T],
 }
 
-impl<T: Entry> Row for Items<'_, T> {
+impl<T: Entry + Copy> Row for Items<'_, T> {
     type Item = T;
 
     ghost entries = { λ row. row.items.now };

@@ -34,7 +34,7 @@ fn place_of_code(levels: u32, field: &[u8]) -> Result<Place, Refusal>
 {
     let number = long_number(field).ok_or(Refusal::BadLine)?;
     let levels = Levels::try_from(levels)?;
-    // `map_err` and `?` were tried: what the refusal is stayed open in the proof
+    // `map_err` with `?`, and `ok` with `ok_or`, were tried: that the number is past all codes stayed open in the proof
     let Ok(code) = u32::try_from(number) else {
         return Err(Refusal::Outside);
     };

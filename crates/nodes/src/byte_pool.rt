@@ -5,7 +5,7 @@ ghost use Rattle.nodes.specs.Format.{node_bytes, read_node, read_nodes, length_n
 ghost use Rattle.nodes.specs.Places.{nodes_more, nodes_own, bytes_hold};
 ghost use Rattle.nodes.specs.Pools.{bytes};
 
-use crate::format::{Field, LINK_BYTES, LINKS_AT, OFFSET_BYTES, OFFSETS_AT, get_node, put_node};
+use crate::format::{LINKS_AT, OFFSETS_AT, get_node, nth_field, put_node};
 use crate::lent_pool::Pool;
 use crate::node::{NODE_BYTES, Node};
 use crate::place::Place;
@@ -68,16 +68,12 @@ impl Place for u8 {
         places[1]
     }
 
-    #[tactic(auto, using(crate::proofs::ByteFields::link_at))]
     fn link(places: &[u8], i: usize) -> u16 {
-        let at = LINKS_AT + LINK_BYTES * i;
-        u16::read(&places[at..at + LINK_BYTES])
+        nth_field(places, LINKS_AT, i)
     }
 
-    #[tactic(auto, using(crate::proofs::ByteFields::offset_at))]
     fn offset(places: &[u8], i: usize) -> u32 {
-        let at = OFFSETS_AT + OFFSET_BYTES * i;
-        u32::read(&places[at..at + OFFSET_BYTES])
+        nth_field(places, OFFSETS_AT, i)
     }
 
     fn put(places: &mut [u8], node: &Node) {

@@ -1,5 +1,5 @@
 // Records as bytes: level, mask, links and offsets, each number with its low byte first.
-ghost use Rattle.std.specs.Prelude.{◌≡◌, ◌*◌, ◌^◌, ◌<◌, ℕ, length, map};
+ghost use Rattle.std.specs.Prelude.{◌≡◌, ◌+◌, ◌*◌, ◌^◌, ◌<◌, ◌≤◌, ℕ, length, take, drop, map};
 ghost use Rattle.std.specs.List.{flat_map, AllByRecursion};
 ghost use Rattle.nodes.specs.Records.{children};
 ghost use Rattle.nodes.specs.Format.{Fitting, bytes_of, node_bytes, read_node, value_of, values_of, written};
@@ -86,12 +86,22 @@ impl Field for u32 {
     }
 }
 
+// Field i of those that begin at byte `from`.
+pub(crate) fn nth_field<F: Field>(bytes: &[u8], from: usize, i: usize) -> F
+    requires { from + (F.WIDTH * i + F.WIDTH) ≤ length bytes.now }
+    ensures { F.number result ≡ value_of (take F.WIDTH (drop (from + F.WIDTH * i) bytes.now)) }
+{
+    let at = from + F::WIDTH * i;
+    F::read(&bytes[at..at + F::WIDTH])
+}
+
 // The eight fields that the bytes write.
 #[tactic(auto, unfolding(crate::specs::Format::values_of))]
 fn fields<F: Field>(bytes: &[u8]) -> [F; CHILDREN]
     requires { length bytes.now ≡ F.WIDTH * children }
     ensures { map F.number result ≡ values_of F.WIDTH children bytes.now }
 {
+    // `array::from_fn` was tried: what it gives over any type of field stayed open in the proof
     let mut fields = [F::default(); CHILDREN];
     for (i, field) in fields.iter_mut().enumerate() {
         let at = F::WIDTH * i;
@@ -142,7 +152,8 @@ pub(crate) fn put_node(bytes: &mut [u8], node: &Node)
 }
 
 impl Node {
-    // The record that the bytes write. Any 50 bytes write one, and it is written as these bytes.
+    // The record that the bytes write. Any 50 bytes write one, and it is written as these bytes. Both ways have a name that says bytes,
+    // as the library's own have, since a `From` would not.
     pub fn from_bytes(bytes: &[u8; NODE_BYTES]) -> Node
         ensures value { result ≡ read_node bytes.now }
         ensures fitting { Fitting result }

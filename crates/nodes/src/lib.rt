@@ -6,7 +6,7 @@ pub mod byte_pool;
 pub mod format;
 pub mod lent_pool;
 pub mod node;
-pub mod place;
+mod place;
 pub mod pool;
 pub mod row_pool;
 pub mod tail;

@@ -23,6 +23,7 @@ impl<P: NodePool> Row for TailRow<'_, P> {
     }
 
     fn entry(&self, n: usize) -> Option<Node> {
+        // `then` was tried: its closure's call stayed open in the proof
         if n < self.count() {
             Some(self.pool.read(self.from + n))
         } else {

@@ -11,14 +11,22 @@ pub(crate) struct Child {
     ghost below: { i < children },
 }
 
+// The number of the sub-cube of level k that holds the code. Levels down from a hall's are plain numbers: they count loops.
+pub(crate) fn sub_cube(k: u32, code: u32) -> u32
+    requires { k ≤ 10 }
+    ensures { result ≡ sub_cube k code }
+{
+    code >> (3 * k)
+}
+
 impl Child {
-    // The child of its parent that a code's sub-cube of level k is. Levels down from a hall's are plain numbers: they count loops.
+    // The child of its parent that a code's sub-cube of level k is.
     pub(crate) fn of(k: u32, code: u32) -> Child
         requires { k ≤ 10 }
         ensures { result.i ≡ sub_cube k code % 8 }
     {
         Child {
-            i: (code >> (3 * k)) as usize % 8,
+            i: sub_cube(k, code) as usize % 8,
         }
     }
 

@@ -1,25 +1,16 @@
 // Closing the levels of a map: the record of a sub-cube that gets no more cells goes into the pool.
 ghost use Rattle.std.specs.Prelude.{◌≡◌, ◌<◌, ◌≤◌};
-ghost use Rattle.cells.specs.SubCubes.{sub_cube};
 ghost use Rattle.voxels.specs.Growing.{Grown};
 ghost use Rattle.voxels.specs.Stages.{Numbered, Stepped};
 ghost use Rattle.voxels.specs.Closes.{ClosedRows};
 
-use crate::child::Child;
+use crate::child::{Child, sub_cube};
 use crate::row::{OpenRow, ROWS};
 use cells::levels::Levels;
 use cells::refusal::Refusal;
 use nodes::node::Node;
 use nodes::pool::NodePool;
 use nodes::tail::find;
-
-// The number of the sub-cube of level k that holds the code.
-fn sub_cube(k: u32, code: u32) -> u32
-    requires { k ≤ 10 }
-    ensures { result ≡ sub_cube k code }
-{
-    code >> (3 * k)
-}
 
 // The lowest number of an equal record in the pool. Where there is none the record is added, which a full pool refuses.
 fn number_of<P: NodePool>(pool: &mut P, node: &Node) -> Result<u16, Refusal>
@@ -72,6 +63,7 @@ pub(crate) fn closed_rows<P: NodePool>(
 {
     let before = pool.count();
     let mut left = rows;
+    // a loop over the levels' numbers: each round empties row r and fills row r + 1
     for r in 0..levels.count {
         if sub_cube(r + 1, last) == sub_cube(r + 1, code) {
             return Ok(left);

@@ -64,14 +64,17 @@ impl<P: NodePool, S: TagStore, K: TagKind> Map<P, S, K> {
         ensures rule { S.TagStore.admits result.store ≡ S.TagStore.admits store }
         ensures stands { levels_fit levels ≡ true → ShowsOpen K.TagKind.word_of levels [] [] (shown P.NodePool S.TagStore result) }
     {
-        if let Err(refusal) = Levels::try_from(levels) {
-            return Map::over(pool, store, Plain::in_phase(levels, Phase::Void(refusal)));
-        }
         let mut pool = pool;
         let mut store = store;
-        pool.cut(0);
-        store.empty();
-        Map::over(pool, store, Plain::in_phase(levels, Phase::Open))
+        let phase = match Levels::try_from(levels) {
+            Ok(_) => {
+                pool.cut(0);
+                store.empty();
+                Phase::Open
+            }
+            Err(refusal) => Phase::Void(refusal),
+        };
+        Map::over(pool, store, Plain::in_phase(levels, phase))
     }
 
     // The number of records, in any state.

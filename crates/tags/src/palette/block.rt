@@ -9,7 +9,7 @@ pub const BLOCK_WORDS: usize = 64;
 pub const PALETTE_PLACES: usize = 16;
 
 // A palette of words, and an index into it for each word of the block.
-#[derive(Clone, Copy)]
+#[derive(Clone, Copy, PartialEq, Eq, Debug)]
 pub struct Block {
     pub palette: [u32; PALETTE_PLACES],
     pub indices: [u8; BLOCK_WORDS],
