@@ -1,5 +1,7 @@
 // The list of the hall of 2 levels with the cells 0, 8 and 17, damaged in one field: it is refused with 9,
 // unless it is the list that the cells it marks seal to.
+ghost use Rattle.std.specs.Prelude.{◌<◌};
+
 use crate::adopted::adopted;
 use cells::refusal::Refusal;
 use nodes::node::{NONE, Node};
@@ -66,6 +68,17 @@ fn judged_right(rt: &impl Abort, list: &Three) -> Result<bool, Fail> {
     Ok(taken)
 }
 
+// So it does after a change of record n of the sound list.
+fn judged_right_with<F: FnOnce(&mut Node)>(rt: &impl Abort, n: usize, change: F) -> Result<(), Fail>
+    requires record { n < 3 }
+    requires change { F.IsAlwaysCallable change }
+{
+    let mut list = sound();
+    change(&mut list[n]);
+    let _ = judged_right(rt, &list)?;
+    Ok(())
+}
+
 #[test]
 fn the_sound_list(rt: HostRuntime) -> Result<(), Fail> {
     assert!(rt; judged_right(&rt, &sound())?);
@@ -76,12 +89,8 @@ fn the_sound_list(rt: HostRuntime) -> Result<(), Fail> {
 fn any_level_or_mask(rt: HostRuntime) -> Result<(), Fail> {
     for n in 0..3 {
         for value in 0..=u8::MAX {
-            let mut list = sound();
-            list[n].level = value;
-            let _ = judged_right(&rt, &list)?;
-            let mut other = sound();
-            other[n].mask = value;
-            let _ = judged_right(&rt, &other)?;
+            judged_right_with(&rt, n, |node| node.level = value)?;
+            judged_right_with(&rt, n, |node| node.mask = value)?;
         }
     }
     Ok(())
@@ -92,14 +101,10 @@ fn some_links_and_offsets(rt: HostRuntime) -> Result<(), Fail> {
     for n in 0..3 {
         for i in 0..8 {
             for link in [0, 1, 2, 3, 4, 255, 256, 32768, 65534, NONE] {
-                let mut list = sound();
-                list[n].links[i] = link;
-                let _ = judged_right(&rt, &list)?;
+                judged_right_with(&rt, n, |node| node.links[i] = link)?;
             }
             for offset in [0, 1, 2, 3, 8, 255, 65536, 1 << 31, u32::MAX] {
-                let mut list = sound();
-                list[n].offsets[i] = offset;
-                let _ = judged_right(&rt, &list)?;
+                judged_right_with(&rt, n, |node| node.offsets[i] = offset)?;
             }
         }
     }
