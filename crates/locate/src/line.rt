@@ -54,7 +54,8 @@ fn place_of_cell(levels: u32, x: &[u8], y: &[u8], z: &[u8]) -> Result<Place, Ref
     Ok(Place { cell, code })
 }
 
-// What one line of the file points at, without its line feed.
+// What one line of the file points at, without its line feed. The levels come as a plain number, as from any caller,
+// so that a wrong one has its refusal.
 pub fn locate_line(levels: u32, line: &[u8]) -> Result<Place, Refusal>
     ensures { answer result ≡ line_answer levels (pieces 32 line.now) }
 {

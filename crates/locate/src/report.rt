@@ -1,5 +1,5 @@
 // The report on a file: a line for each of its lines, and a summary.
-ghost use Rattle.std.specs.Prelude.{◌≡◌, ◌^◌, ◌<◌, ◌≤◌, ◌++◌, length, IfOk, string_bytes, OnOk};
+ghost use Rattle.std.specs.Prelude.{◌≡◌, ◌^◌, ◌<◌, ◌≤◌, ◌++◌, length, IfOk, string_bytes, OnOk, Some};
 ghost use Rattle.cells.specs.Refusals.{answer, gives, number_of};
 ghost use Rattle.text.specs.Pieces.{pieces};
 ghost use Rattle.locate.specs.Drafts.{Noted};
@@ -8,16 +8,31 @@ ghost use Rattle.locate.specs.Report.{refusal_line, shown, summary, answers, end
 use crate::line::{Place, levels_of, locate_line};
 use cells::refusal::Refusal;
 use std::alloc::{AllocError, Global};
-use std::fmt::Write;
+use std::fmt::{self, Write};
 use text::piece::cut_at;
 
 pub const MOST_BYTES: usize = 16_384;
 
-// The line that tells a refusal and where it came.
+// A refusal and the line of the file where it came, printed as a line.
+#[derive(Clone, Copy, PartialEq, Eq, Debug)]
+struct Refused {
+    refusal: Refusal,
+    line: u32,
+}
+
+impl fmt::Display for Refused {
+    ghost output = { λ refused. Some (refusal_line (number_of refused.refusal) refused.line) };
+
+    fn fmt<W: fmt::Write>(&self, f: &mut fmt::Formatter<W>) -> fmt::Result {
+        writeln!(f, "refused {} at {}", self.refusal, self.line)
+    }
+}
+
+// The report that is a refusal alone.
 fn refusal_line(heap: Global, refusal: Refusal, line: u32) -> Result<String, AllocError>
     ensures { IfOk result (λ s. string_bytes s ≡ refusal_line (number_of refusal) line) }
 {
-    format!(in heap; "refused {refusal} at {line}\n")
+    format!(in heap; "{}", Refused { refusal, line })
 }
 
 // A report that is being written: its text, the next line of the file, and the counts so far.
@@ -42,7 +57,11 @@ impl Draft {
             }
             Err(refusal) => {
                 self.refused += 1;
-                writeln!(self.text, "refused {refusal} at {}", self.line)?;
+                let refused = Refused {
+                    refusal,
+                    line: self.line,
+                };
+                write!(self.text, "{refused}")?;
             }
         }
         self.line += 1;
@@ -92,6 +111,7 @@ fn report_lines(heap: Global, levels: u32, lines: &[u8]) -> Result<String, Alloc
         refused: 0,
     };
     let mut rest = lines;
+    // no `split`: what stands behind the last line feed is told apart from the lines
     loop {
         let next = cut_at(rest, b'\n');
         let Some(after) = next.rest else {
