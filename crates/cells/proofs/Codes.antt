@@ -6,7 +6,7 @@ use Rattle.std.proofs.lemmas.Bool.{cases_lt}
 use Rattle.std.proofs.lemmas.Bool.Decides.{nat_tests}
 use Rattle.cells.specs.Hall.{levels_fit, bit, from_digits, cell_fits, code_of, axis, cell_at, CodeBits}
 use Rattle.cells.specs.declared.hall.Cell.{Cell}
-use Rattle.cells.proofs.Digits.{digits_same, digits_of, digits_below, digit_at, digits_more, base_pos}
+use Rattle.cells.proofs.Digits.{digits_same, digits_of, digits_below, digit_at, base_pos}
 use Rattle.cells.specs.SubCubes.{InSubCubes}
 
 -- ---- three bits to a digit
@@ -120,20 +120,12 @@ axis_below L a n = digits_below 2 (λ j. bit (3 * j + a) n) (λ j. bit_small (3 
 pub code_fits : (j : ℕ) (c : Cell) → j ≤ 10 → code_of j c < 2 ^ 30
 code_fits j c h = lt_of_lt_of_le (code_below j c) (pow-le-pow_right {n = 8} (omega arith) h)
 
-digit_shifted : (q j : ℕ) → q < 8 → j < 10 → (q * 2 ^ (3 * j)) % 2 ^ 32 ≡ q * 8 ^ j
+-- a digit that was shifted to its place
+pub digit_shifted : (q j : ℕ) → q < 8 → j < 10 → (q * 2 ^ (3 * j)) % 2 ^ 32 ≡ q * 8 ^ j
 digit_shifted q j h l = rw (shl_whole q 3 (3 * j) 32 h (omega arith), eight j) refl
-
--- the code with the bits of one more j
-pub code_more : (j : ℕ) (c : Cell) → j < 10 → code_of j c + (code_digit c j * 2 ^ (3 * j)) % 2 ^ 32 ≡ code_of (j + 1) c
-code_more j c h = rw (digit_shifted (code_digit c j) j (code_digit_small c j) h) (sym (digits_more 8 (code_digit c) j))
 
 pub axis_fits : (j a n : ℕ) → j ≤ 10 → axis j a n < 2 ^ 10
 axis_fits j a n h = lt_of_lt_of_le (axis_below j a n) (pow-le-pow_right {n = 2} (omega arith) h)
-
--- the coordinate with one more bit
-pub axis_more : (j a n : ℕ) → j < 10 → axis j a n + (bit (3 * j + a) n * 2 ^ j) % 2 ^ 32 ≡ axis (j + 1) a n
-axis_more j a n h =
-    rw (shl_whole (bit (3 * j + a) n) 1 j 32 (bit_small (3 * j + a) n) (omega arith)) (sym (digits_more 2 (λ i. bit (3 * i + a) n) j))
 
 -- ---- what the tests tell
 

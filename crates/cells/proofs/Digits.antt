@@ -3,6 +3,9 @@ use Rattle.std.proofs.Common.{◌≡◌, ℕ, zero, suc, ◌+◌, ◌-◌, ◌*�
 use native.Mathlib.Nat.{pow-zero, pow-succ', add-mul-div_right, add-mul-mod_self_right, mod-one}
 use lib.Arith.{digits_lt, digits_div, mod-mul}
 use Rattle.std.proofs.lemmas.Bool.{cases_order}
+use Rattle.std.specs.Prelude.{map}
+use Rattle.std.specs.List.{range_with_len, sum}
+use Rattle.std.proofs.lemmas.List.FromFn.{sum_by-map-range_with_len_more}
 use Rattle.cells.specs.Hall.{from_digits}
 
 pub base_pos : (b n : ℕ) → 0 < b → 0 < b ^ n
@@ -52,11 +55,13 @@ module _ (b : ℕ) (d : ℕ → ℕ) (small : (j : ℕ) → d j < b) where
       (⊎_elim (λ l. above_digit b (d n) (from_digits b d n) n j (omega (arith, small 0)) l ∙ digit_at n j l) (λ l. absurd (omega arith)))
       (cases_order j n)
 
--- one more digit
-pub digits_more : (b : ℕ) (d : ℕ → ℕ) (n : ℕ) → from_digits b d (n + 1) ≡ from_digits b d n + d n * b ^ n
+-- the digits added up
+pub digits_sum : (b : ℕ) (d : ℕ → ℕ) (n : ℕ) → sum (map (λ j. d j * b ^ j) (range_with_len 0 n)) ≡ from_digits b d n
 unfolding from_digits
-digits_more b d n = rw add-one (add_comm (d n * b ^ n) (from_digits b d n))
-
-pub digits_none : (b : ℕ) (d : ℕ → ℕ) → from_digits b d 0 ≡ 0
-unfolding from_digits
-digits_none b d = refl
+digits_sum b d zero = refl
+digits_sum b d (suc n) =
+    let m : suc n ≡ n + 1 = omega arith in
+    ap (λ k. sum (map (λ j. d j * b ^ j) (range_with_len 0 k))) m
+    ∙ sum_by-map-range_with_len_more (λ x. x) (λ j. d j * b ^ j) 0 n n (omega arith)
+    ∙ ap (λ k. k + d n * b ^ n) (digits_sum b d n)
+    ∙ add_comm (from_digits b d n) (d n * b ^ n)

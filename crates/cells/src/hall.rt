@@ -1,7 +1,7 @@
 // The hall in cells: how many levels it has, which cells it has, and each cell's code.
-ghost use Rattle.std.specs.Prelude.{◌≡◌, ◌^◌, ◌<◌, ◌≤◌, true, not, IfOk, OnOk, nat_le};
+ghost use Rattle.std.specs.Prelude.{◌≡◌, ◌+◌, ◌*◌, ◌^◌, ◌<◌, ◌≤◌, true, not, IfOk, OnOk, nat_le};
 ghost use Rattle.cells.specs.Refusals.{answer, gives, refuse_if};
-ghost use Rattle.cells.specs.Hall.{levels_fit, side, volume, cell_fits, code_of, axis, cell_at, CodeBits};
+ghost use Rattle.cells.specs.Hall.{bit, levels_fit, side, volume, cell_fits, code_of, axis, cell_at, CodeBits};
 ghost use Rattle.cells.specs.Levels.{LevelsOf};
 ghost use Rattle.cells.specs.SubCubes.{InSubCubes};
 
@@ -60,12 +60,14 @@ impl Levels {
         ensures back { cell_fits self.count cell ≡ true → cell_at self.count result ≡ cell }
     {
         let Cell { x, y, z } = cell;
-        let mut code = 0;
-        for j in 0..self.count {
-            let digit = (x >> j) % 2 + 2 * ((y >> j) % 2) + 4 * ((z >> j) % 2);
-            code += digit << (3 * j);
-        }
-        code
+        (0..self.count)
+            .map(
+                |j|
+                    requires { j < 10 }
+                    ensures { result ≡ (bit j x + 2 * bit j y + 4 * bit j z) * 8 ^ j }
+                { ((x >> j) % 2 + 2 * ((y >> j) % 2) + 4 * ((z >> j) % 2)) << (3 * j) },
+            )
+            .sum()
     }
 
     // The code of a cell of the hall.
@@ -96,11 +98,14 @@ impl Levels {
         requires { first < 3 }
         ensures { result ≡ axis self.count first code }
     {
-        let mut value = 0;
-        for j in 0..self.count {
-            value += ((code >> (3 * j + first)) % 2) << j;
-        }
-        value
+        (0..self.count)
+            .map(
+                |j|
+                    requires { (j < 10) × (first < 3) }
+                    ensures { result ≡ bit (3 * j + first) code * 2 ^ j }
+                { ((code >> (3 * j + first)) % 2) << j },
+            )
+            .sum()
     }
 
     // The three coordinates that the bits of a code belong to.

@@ -66,6 +66,7 @@ impl<'a, T: Place> Pool<'a, T> {
     fn places_of(&self, n: usize) -> Option<&[T]>
         ensures { MatchOption result (slice_index_or (list_of T.Place self.now) n blank ≡ blank) (λ places. (length places.now ≡ T.WIDTH) × (T.node_in places.now ≡ slice_index_or (list_of T.Place self.now) n blank)) }
     {
+        // `then` was tried: that the record's places lie inside stayed open in its closure
         if n < self.count {
             let at = T::WIDTH * n;
             Some(&self.places[at..at + T::WIDTH])
@@ -108,6 +109,7 @@ impl<T: Place> NodePool for Pool<'_, T> {
         self.places_of(n).map_or(0, T::mask)
     }
 
+    // no body for links and offsets alike: it would take the question, with what that asks, as a closure
     fn link_at(&self, n: usize, i: usize) -> u16 {
         match self.places_of(n) {
             Some(places) if i < CHILDREN => T::link(places, i),

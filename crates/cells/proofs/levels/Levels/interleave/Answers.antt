@@ -1,29 +1,28 @@
-use Rattle.std.proofs.Common.{◌≡◌, ◌+◌, ◌^◌, ◌<◌, sym, ap, ◌∙◌, subst, arith}
+use Rattle.std.proofs.Common.{◌≡◌, ℕ, ◌*◌, ◌^◌, ◌<◌, ◌∙◌, sym, subst, rules, tests, arith}
+use Rattle.std.proofs.lemmas.Iterator.{YieldsList-from_map, YieldsList-from_range}
+use Rattle.std.proofs.lemmas.Iterator.Consumers.{sum_from_yields_List, fits_from_yields_list}
 use Rattle.cells.specs.Hall.{code_of, cell_at, CodeBits}
-use Rattle.cells.proofs.Digits.{digits_none}
-use Rattle.cells.proofs.Codes.{code_digit, code_more, code_fits, code_below, code_bits, code_back, cell_fits_lem}
+use Rattle.cells.proofs.Digits.{digits_sum}
+use Rattle.cells.proofs.Codes.{code_digit, code_fits, code_below, code_bits, code_back, cell_fits_lem}
 use Rattle.cells.proofs.levels.Levels.interleave.Goals as goal
 
-pub loop-j-init : goal.loop-j-init
-loop-j-init c = sym (digits_none 8 (code_digit c.args.cell))
-
-pub overflow_add-code : goal.overflow_add-code
-overflow_add-code c =
-    let d = c.args.cell in
-    rw (c.loop-j.invariant, code_more c.loop-j.j d (omega arith)) (omega (arith, code_fits (c.loop-j.j + 1) d (omega arith)))
-
-pub loop-j-preserved : goal.loop-j-preserved
-loop-j-preserved c =
-    rw c.loop-j.invariant (code_more c.loop-j.j c.args.cell (omega arith))
+pub sum-requires-clause-fits : goal.sum-requires-clause-fits
+sum-requires-clause-fits c =
+    let d : ℕ → ℕ = code_digit c.args.cell in
+    fits_from_yields_list c.map.result _ (YieldsList-from_map _ (λ j. d j * 8 ^ j) (YieldsList-from_range 0 _ c.args.self.count c.map.ensures.source (omega arith)) c.map.ensures.closure (λ x r q k. search (rules, tests)))
+    (omega (arith, digits_sum 8 d c.args.self.count, code_fits c.args.self.count c.args.cell (omega arith)))
 
 pub returns : goal.returns
 returns c =
     let L = c.args.self.count in
-    let d = c.args.cell in
-    let e : c.loop-j.code ≡ code_of L d = c.loop-j.invariant ∙ ap (λ j. code_of j d) (omega arith) in
+    let cell = c.args.cell in
+    let d : ℕ → ℕ = code_digit cell in
+    let e : c.sum.result ≡ code_of L cell =
+    sum_from_yields_List c.map.result _ c.sum.ensures.ran (YieldsList-from_map _ (λ j. d j * 8 ^ j) (YieldsList-from_range 0 _ L c.map.ensures.source (omega arith)) c.map.ensures.closure (λ x r q k. search (rules, tests)))
+    ∙ digits_sum 8 d L in
     record {
       value = e;
-      below = subst (λ n. n < 8 ^ L) (sym e) (code_below L d);
-      bits = λ q. let f = cell_fits_lem L d q in subst (CodeBits d) (sym e) (code_bits L d f.0 f.1 f.2);
-      back = λ q. let f = cell_fits_lem L d q in subst (λ n. cell_at L n ≡ d) (sym e) (code_back L d f.0 f.1 f.2);
+      below = subst (λ n. n < 8 ^ L) (sym e) (code_below L cell);
+      bits = λ q. let f = cell_fits_lem L cell q in subst (CodeBits cell) (sym e) (code_bits L cell f.0 f.1 f.2);
+      back = λ q. let f = cell_fits_lem L cell q in subst (λ n. cell_at L n ≡ cell) (sym e) (code_back L cell f.0 f.1 f.2);
     }
