@@ -82,15 +82,19 @@ def lines_with(pattern, skip=r"^\s*(//|ghost use|requires|ensures|ghost )"):
                 yield f"{path}:{n + 1} {line.strip()}"
 
 
+def pairs_of_lines(first, second):
+    """A line of the one kind with a line of the other right behind it."""
+    for path, lines in FILES:
+        for n, (line, behind) in enumerate(zip(lines, lines[1:])):
+            if re.search(first, line) and re.search(second, behind):
+                yield f"{path}:{n + 1} {line.strip()} {behind.strip()}"
+
+
 def enums_and_answers():
     yield from lines_with(r"^\s*(pub(\(\w+\))? )?enum ")
     yield from lines_with(r"None => None|None => \{? ?return None|Err\((\w+)\) => Err\(\1\)|Some\((\w+)\) => Some\(|Ok\((\w+)\) => Ok\(")
-    for path, lines in FILES:
-        for n, line in enumerate(lines):
-            if re.search(r"else \{$", line) and n + 1 < len(lines) and re.match(r"\s*return (None|Err\()", lines[n + 1]) and "let " in line:
-                yield f"{path}:{n + 1} {line.strip()} {lines[n + 1].strip()}"
-            if re.search(r"if let Err\(", line):
-                yield f"{path}:{n + 1} {line.strip()}"
+    yield from pairs_of_lines(r"let .*else \{$", r"^\s*return (None|Err\()")
+    yield from lines_with(r"if let Err\(")
     yield from lines_with(r"\[[01](u8)?; \w+\]; *// *mark|= \[0u8;")
     for fn in FUNCTIONS:
         if re.search(r"-> bool", fn.head) and "&mut" in fn.head:
@@ -171,10 +175,7 @@ def facts():
 def memory():
     yield from lines_with(r"^\s*(pub(\(\w+\))? )?(count|len|used): usize,")
     yield from lines_with(r"^(pub )?const \w+: \[")
-    for path, lines in FILES:
-        for n, line in enumerate(lines):
-            if re.search(r": \[.*; \w+\],$", line) and n + 1 < len(lines) and re.search(r": \[.*; \w+\],$", lines[n + 1]) and not line.strip().startswith("ghost"):
-                yield f"{path}:{n + 1} {line.strip()} {lines[n + 1].strip()}"
+    yield from pairs_of_lines(r"^(?!\s*ghost).*: \[.*; \w+\],$", r": \[.*; \w+\],$")
     yield from lines_with(r"fn \w+.*used: usize")
 
 
