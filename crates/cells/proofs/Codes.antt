@@ -6,7 +6,7 @@ use Rattle.std.proofs.lemmas.Bool.{cases_lt}
 use Rattle.std.proofs.lemmas.Bool.Decides.{nat_tests}
 use Rattle.cells.specs.Hall.{levels_fit, bit, from_digits, cell_fits, code_of, axis, cell_at, CodeBits}
 use Rattle.cells.specs.declared.hall.Cell.{Cell}
-use Rattle.cells.proofs.Digits.{digits_same, digits_of, digits_below, digit_at, base_pos}
+use Rattle.cells.proofs.Digits.{digits_same, digits_of, digits_below, digit_at, digits_more, base_pos}
 use Rattle.cells.specs.SubCubes.{InSubCubes}
 
 -- ---- three bits to a digit
@@ -152,3 +152,14 @@ levels_fit_lem L e = (grind (arith, nat_tests), grind (arith, nat_tests))
 -- no hall has more than 2 ^ 30 cells
 pub volume_most : (L : ℕ) → levels_fit L ≡ true → 8 ^ L ≤ 2 ^ 30
 volume_most L e = pow-le-pow_right {n = 8} (omega arith) (levels_fit_lem L e).1
+
+-- ---- one level more, in 32 bits
+
+-- the code with the bits of one more j
+pub code_more : (j : ℕ) (c : Cell) → j < 10 → code_of j c + (code_digit c j * 2 ^ (3 * j)) % 2 ^ 32 ≡ code_of (j + 1) c
+code_more j c h = rw (digit_shifted (code_digit c j) j (code_digit_small c j) h) (sym (digits_more 8 (code_digit c) j))
+
+-- the coordinate with one more bit
+pub axis_more : (j a n : ℕ) → j < 10 → axis j a n + (bit (3 * j + a) n * 2 ^ j) % 2 ^ 32 ≡ axis (j + 1) a n
+axis_more j a n h =
+    rw (shl_whole (bit (3 * j + a) n) 1 j 32 (bit_small (3 * j + a) n) (omega arith)) (sym (digits_more 2 (λ i. bit (3 * i + a) n) j))

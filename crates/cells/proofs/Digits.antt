@@ -65,3 +65,8 @@ digits_sum b d (suc n) =
     ∙ sum_by-map-range_with_len_more (λ x. x) (λ j. d j * b ^ j) 0 n n (omega arith)
     ∙ ap (λ k. k + d n * b ^ n) (digits_sum b d n)
     ∙ add_comm (from_digits b d n) (d n * b ^ n)
+
+-- one more digit
+pub digits_more : (b : ℕ) (d : ℕ → ℕ) (n : ℕ) → from_digits b d (n + 1) ≡ from_digits b d n + d n * b ^ n
+unfolding from_digits
+digits_more b d n = rw add-one (add_comm (d n * b ^ n) (from_digits b d n))

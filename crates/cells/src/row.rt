@@ -1,16 +1,13 @@
 // The one search: the lowest number of an entry of a row that equals a given one.
-ghost use Rattle.std.specs.Prelude.{◌≡◌, true, List, length, Some, Decides};
-ghost use Rattle.std.proofs.Common.{rules};
+ghost use Rattle.std.specs.Prelude.{◌≡◌, List, length, Some, Decides};
 ghost use Rattle.std.specs.List.{slice_get};
 ghost use Rattle.cells.specs.Rows.{Lowest};
 
-// An entry that can be compared with another of its type. Only entries that are the same compare as equal.
-pub trait Entry: Eq + Drop {
-    // entries that compare as equal are the same
-    ghost same: { (a b : Self) → Self.eq a b ≡ true → a ≡ b };
-
-    // and each compares as equal to itself
-    ghost itself: { (a : Self) → Self.eq a a ≡ true };
+// An entry that can be compared with another of its type. The comparison is a call of its own and no bound on `Eq`, so that
+// entries whose `==` leaves a part out can be searched too.
+pub trait Entry: Drop {
+    fn same(&self, other: &Self) -> bool
+        ensures { Decides result (self.now ≡ other.now) };
 }
 
 // A row of entries, numbered from 0.
@@ -35,26 +32,26 @@ pub fn search<R: Row>(row: &R, wanted: &R::Item) -> Option<usize>
     (0..row.count()).find(
         |&n|
             ensures { Decides result (slice_get (R.Row.entries row.entry.now) n ≡ Some wanted.entry.now) }
-        { row.entry(n).is_some_and(|found| found == *wanted) },
+        { row.entry(n).is_some_and(|found| found.same(wanted)) },
     )
 }
 
 impl Entry for u8 {
-    ghost same = { Prim.search rules };
-
-    ghost itself = { Prim.search rules };
+    fn same(&self, other: &u8) -> bool {
+        *self == *other
+    }
 }
 
 impl Entry for bool {
-    ghost same = { Prim.search rules };
-
-    ghost itself = { Prim.search rules };
+    fn same(&self, mark: &bool) -> bool {
+        *self == *mark
+    }
 }
 
 impl Entry for u32 {
-    ghost same = { Prim.search rules };
-
-    ghost itself = { Prim.search rules };
+    fn same(&self, word: &u32) -> bool {
+        *self == *word
+    }
 }
 
 // A slice as a row of its items.

@@ -1,7 +1,8 @@
 -- Memory with blanks: how writing changes it.
-use Rattle.std.proofs.Common.{◌≡◌, ℕ, ◌+◌, ◌-◌, ◌≤◌, List, ◌++◌, length, take, drop, replicate, sym, ap, ◌∙◌, arith}
+use Rattle.std.proofs.Common.{◌≡◌, ℕ, ◌+◌, ◌-◌, ◌<◌, ◌≤◌, List, ◌++◌, length, take, drop, set, replicate, sym, ap, ◌∙◌, arith}
+use native.Mathlib.Nat.{sub_self}
 use borrow.Rule.Slice.PartMut.{put_mid}
-use Rattle.std.proofs.lemmas.List.{append_assoc, length-take, length-take-le, length-drop, length-append, length-replicate, take_at, drop_at, drop-append-le, drop-drop, drop-replicate, replicate-append-replicate}
+use Rattle.std.proofs.lemmas.List.{append_assoc, length-take, length-take-le, length-drop, length-append, length-replicate, take_at, drop_at, drop-append-le, drop-drop, drop-replicate, set-append_right, drop_more, replicate_more, replicate-append-replicate}
 use Rattle.nodes.specs.Memory.{laid}
 
 -- a part of memory from a to k is overwritten with y
@@ -70,3 +71,14 @@ filled m bs z y a k from to ae ke le in' zy h =
     put_part m bs a from k (to - from) ae ke
     ∙ ap (λ l. take from m ++ (l ++ drop (from + (to - from)) m)) (h ∙ ap (λ j. replicate j z) l ∙ ap (replicate (to - from)) zy)
     ∙ ap (λ j. take from m ++ (replicate (to - from) y ++ drop j m)) e
+
+-- one place more is overwritten
+pub over_more : {X : Type 0} (m : List X) (a k : ℕ) (y : X) → a ≤ k → k < length m → set (over m a k y) k y ≡ over m a (k + 1) y
+over_more m a k y le lt =
+    let la : length (take a m) ≡ a = length-take-le a m (omega arith) in
+    let lr : length (replicate (k - a) y) ≡ k - a = length-replicate (k - a) y in
+    let e1 = set-append_right (take a m) (replicate (k - a) y ++ drop k m) a k y la le in
+    let e2 = set-append_right (replicate (k - a) y) (drop k m) (k - a) (k - a) y lr (omega arith) in
+    let e3 = drop_more m k y lt in
+    let e4 : k + 1 - a ≡ k - a + 1 = omega arith in
+    e1 ∙ ap (λ z. take a m ++ z) (e2 ∙ rw (sub_self (k - a), e3, e4, ← replicate_more (k - a) y, append_assoc))

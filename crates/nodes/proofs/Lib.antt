@@ -1,5 +1,6 @@
 pub mod Blanks
 pub mod Adding
+pub mod Children
 pub mod Finds
 pub mod LowFirst
 pub mod Numbers
@@ -7,3 +8,4 @@ pub mod Written
 pub mod Memories
 pub mod LentCalls
 pub mod ByteFields
+pub mod ByteRecords

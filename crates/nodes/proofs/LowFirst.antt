@@ -1,7 +1,7 @@
 -- Numbers of several bytes, low byte first: the laws, once for every width.
-use Rattle.std.proofs.Common.{◌≡◌, ℕ, zero, suc, ◌+◌, ◌-◌, ◌*◌, ◌/◌, ◌%◌, ◌^◌, ◌<◌, ◌≤◌, List, [], ◌∷◌, ◌++◌, length, get_or, take, set, refl, ap, ◌∙◌, mul_comm, arith}
+use Rattle.std.proofs.Common.{◌≡◌, ℕ, zero, suc, ◌+◌, ◌-◌, ◌*◌, ◌/◌, ◌%◌, ◌^◌, ◌<◌, ◌≤◌, List, [], ◌∷◌, ◌++◌, length, get_or, take, drop, set, refl, ap, ◌∙◌, mul_comm, arith}
 use native.Mathlib.Nat.{pow-succ', pow-le-pow_right}
-use Rattle.std.proofs.lemmas.List.{append_assoc, take_more_set}
+use Rattle.std.proofs.lemmas.List.{append_assoc, drop_more, take_more_set}
 use Rattle.std.proofs.lemmas.Nat.{div_below, div-add-mod'}
 use Rattle.std.specs.Int.{w16, w32, from_le_bytes}
 use Rattle.nodes.specs.Format.{Bytes, bytes_of, value_of}
@@ -64,3 +64,11 @@ unfolding bytes_of
 bytes_more bs w k rest all lt e h =
     let s : w - k ≡ suc (w - (k + 1)) = omega arith in
     rw (take_more_set bs k (rest % 256) (omega arith), append_assoc (take k bs) (rest % 256 ∷ []) (bytes_of (w - (k + 1)) (rest / 256))) (rw s at h)
+
+-- reading from the last byte down: one more is read
+pub value_more : (bs : List ℕ) (k n : ℕ) → 0 < k → k ≤ length bs → get_or bs (k - 1) 0 < 256 → (n ≡ value_of (drop k bs)) × Bytes (drop k bs) → (n * 256 + get_or bs (k - 1) 0 ≡ value_of (drop (k - 1) bs)) × Bytes (drop (k - 1) bs)
+unfolding value_of
+value_more bs k n pos le b h =
+    let e : k - 1 + 1 ≡ k = omega arith in
+    let d : drop (k - 1) bs ≡ get_or bs (k - 1) 0 ∷ drop k bs = drop_more bs (k - 1) 0 (omega arith) ∙ ap (λ j. get_or bs (k - 1) 0 ∷ drop j bs) e in
+    rw d (omega (arith, h.0), (b, h.1))

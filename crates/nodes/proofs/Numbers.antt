@@ -1,7 +1,9 @@
 -- Numbers of one width that stand one behind another.
 use Rattle.std.proofs.Common.{◌≡◌, ℕ, zero, suc, ◌+◌, ◌*◌, ◌^◌, ◌<◌, ◌≤◌, List, [], ◌∷◌, ◌++◌, length, get_or, take, drop, set, map, sym, refl, ap, ◌∙◌, mul-zero, mul-suc, add-one, arith, w8, Fits}
+use borrow.Rule.Slice.PartMut.{put_mid}
 use Rattle.std.specs.List.{flat_map, AllByRecursion}
-use Rattle.std.proofs.lemmas.List.{map-append, length-take, length-take-le, length-drop, length-append, take-append-drop, take_at, drop_at, nil_from_length, take_more_set, drop-drop}
+use Rattle.std.proofs.lemmas.List.{map-append, length-take, length-take-le, length-drop, length-append, take-append-drop, take_at, drop_at, nil_from_length, take_more, take_more_set, drop-drop, flat_map_more}
+use Rattle.std.proofs.lemmas.Slice.{take-put_mid}
 use Rattle.std.proofs.ByRecursion.{All-from_get_or, All-take, All-drop}
 use Rattle.nodes.specs.Format.{Bytes, bytes_of, value_of, values_of}
 use Rattle.nodes.proofs.LowFirst.{length_bytes_of, value_bytes, bytes_value, value_under}
@@ -79,3 +81,14 @@ written_values w (suc k) bs e h =
     let d : length (drop w bs) ≡ w * k = simp length-drop (omega arith) in
     let v : bytes_of w (value_of (take w bs)) ≡ take w bs = ap (λ j. bytes_of j (value_of (take w bs))) (sym l) ∙ bytes_value (take w bs) (All-take (λ b. b < 256) w bs h) in
     rw (v, written_values w k (drop w bs) d (All-drop (λ b. b < 256) w bs h)) (take-append-drop w bs)
+
+-- one more number is written
+pub writes_more : (w i n a k : ℕ) (bs part xs : List ℕ) → i < length xs → n ≡ get_or xs i 0 → a ≡ w * i → k ≡ w → a + w ≤ length bs → part ≡ bytes_of w n → take a bs ≡ flat_map (bytes_of w) (take i xs) → take (w * (i + 1)) (put_mid a k bs part) ≡ flat_map (bytes_of w) (take (i + 1) xs)
+writes_more w i n a k bs part xs lt ne ae ke in' pe h =
+    let l : length part ≡ w = ap length pe ∙ length_bytes_of w n in
+    let m : w * (i + 1) ≡ a + length part = ap (λ j. w * j) (add-one i) ∙ mul-suc w i ∙ omega arith in
+    take-put_mid a k bs part (w * (i + 1)) m (omega arith)
+    ∙ ap (λ z. z ++ part) h
+    ∙ ap (λ z. flat_map (bytes_of w) (take i xs) ++ z) (pe ∙ ap (bytes_of w) ne)
+    ∙ flat_map_more (bytes_of w) [] (take i xs) (get_or xs i 0)
+    ∙ ap (flat_map (bytes_of w)) (sym (take_more xs i 0 lt))

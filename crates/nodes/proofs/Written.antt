@@ -2,7 +2,7 @@
 use Rattle.std.proofs.Common.{◌≡◌, ℕ, ◌*◌, ◌<◌, List, [], ◌∷◌, ◌++◌, length, get_or, take, drop, set, ap, ◌∙◌, subst, arith}
 use borrow.Rule.Slice.PartMut.{put_mid}
 use Rattle.std.specs.List.{between, flat_map}
-use Rattle.std.proofs.lemmas.List.{append-nil, length-take, length-drop, take-append-drop, take_all, take_at, drop_at, drop-drop, drop_all}
+use Rattle.std.proofs.lemmas.List.{append-nil, length-take, length-drop, length-append, take-append-drop, take_all, take_at, drop_at, drop-drop, drop_all}
 use Rattle.std.proofs.ByRecursion.{All-take, All-drop}
 use Rattle.nodes.specs.declared.node.Node.{Node}
 use Rattle.nodes.specs.Records.{children}
@@ -70,3 +70,9 @@ read_fits (x ∷ y ∷ r) l h =
       eight_offsets = length_values 4 children (take 32 (drop 16 r));
       offsets_fit = values_fit 4 children (take 32 (drop 16 r)) (All-take (λ b. b < 256) 32 (drop 16 r) (All-drop (λ b. b < 256) 16 r h.1.1));
     }
+
+-- a record whose parts fit is written in 50 bytes
+pub length_written : (node : Node) → Fitting node → length (written node) ≡ node_bytes
+unfolding written
+length_written node fit =
+    omega (arith, length-append (flat_map (bytes_of 2) node.links) (flat_map (bytes_of 4) node.offsets), length_joined 2 node.links, length_joined 4 node.offsets, fit.eight_links, fit.eight_offsets)

@@ -2,7 +2,7 @@
 ghost use Rattle.std.specs.Prelude.{◌≡◌, ◌-◌, ◌≤◌, min, MatchOption, [], ◌∷◌, ◌++◌, length, take, drop, replicate, slice_index_or};
 ghost use Rattle.std.specs.Coded.{Coded-set, coded_list};
 ghost use Rattle.nodes.specs.Records.{blank};
-ghost use Rattle.nodes.specs.Pools.{capped, capped_bounded};
+ghost use Rattle.nodes.specs.Pools.{capped, capped_bounded, front};
 ghost use Rattle.nodes.specs.Memory.{laid};
 
 use crate::node::{CHILDREN, MOST_NODES, Node};
@@ -76,6 +76,23 @@ impl<'a, T: Place> Pool<'a, T> {
     }
 }
 
+impl<T: Place> Pool<'_, T> {
+    ghost use Rattle.nodes.specs.LentPools.{list_of, capacity_of, behind_of};
+
+    // Keeps the first n records, and all of them if there are no more.
+    fn keep(&mut self, n: usize)
+        ensures list { list_of T.Place self.new ≡ take n (list_of T.Place self.old) }
+        ensures fixed { capacity_of T.Place self.new ≡ capacity_of T.Place self.old }
+        ensures untouched { T.shown (behind_of T.Place self.new) ≡ T.shown (behind_of T.Place self.old) }
+        ensures kept { front (length (list_of T.Place self.new)) (T.shown self.new.places.now) ≡ front (length (list_of T.Place self.new)) (T.shown self.old.places.now) }
+    {
+        if n < self.count {
+            blank_out(self.places, n, self.count);
+            self.count = n;
+        }
+    }
+}
+
 impl<T: Place> NodePool for Pool<'_, T> {
     ghost use Rattle.nodes.specs.LentPools.{list_of, list_within, capacity_of, behind_of};
 
@@ -136,9 +153,6 @@ impl<T: Place> NodePool for Pool<'_, T> {
     }
 
     fn cut(&mut self, n: usize) {
-        if n < self.count {
-            blank_out(self.places, n, self.count);
-            self.count = n;
-        }
+        self.keep(n);
     }
 }

@@ -8,7 +8,7 @@ ghost use Rattle.nodes.specs.Pools.{Holds, Memory, front};
 use crate::node::Node;
 
 // A place of lent memory. Each record takes the same number of them.
-pub trait Place: Copy {
+pub(crate) trait Place: Copy {
     // How many places one record takes.
     const WIDTH: usize;
 

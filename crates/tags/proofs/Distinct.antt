@@ -1,5 +1,5 @@
 -- How many different words a list has.
-use Rattle.std.proofs.Common.{◌≡◌, ℕ, ◌+◌, ◌<◌, ◌≤◌, true, false, ◌||◌, List, [], ◌∷◌, length, get_or, sym, refl, ap, ◌∙◌, subst, ⊎_elim, arith}
+use Rattle.std.proofs.Common.{◌≡◌, ℕ, ◌+◌, ◌<◌, ◌≤◌, true, false, cond, ◌||◌, List, [], ◌∷◌, length, get_or, sym, refl, ap, ◌∙◌, subst, ⊎_elim, arith}
 use Rattle.std.specs.Prelude.{nat_eq}
 use Rattle.std.specs.List.{AllByRecursion, IsDistinct}
 use Rattle.std.specs.Set.{unique_keys}
@@ -66,3 +66,15 @@ distinct_apart xs apart =
     distinct_count-from_IsDistinct nat_eq_equiv xs (IsDistinct-from_AllPairs Decides-eqb xs (λ j k d before low e.
     let same = apart j k (omega arith) low (get_or_default xs j 0 d (omega arith) ∙ e ∙ get_or_default xs k d 0 low) in
     omega arith))
+
+-- a word that stands there already does not count again
+pub distinct_again : (w : ℕ) (ws : List ℕ) → is_in w ws ≡ true → distinct (w ∷ ws) ≡ distinct ws
+distinct_again w ws e = ap length (cond-true _ _ _ e)
+
+-- the number of different words, one word at a time
+pub distinct_step : (w : ℕ) (ws : List ℕ) → distinct (w ∷ ws) ≡ distinct ws + cond (is_in w ws) 0 1
+distinct_step w ws =
+    ⊎_elim
+    (λ again. omega (arith, distinct_again w ws again, cond-true {A = ℕ} (is_in w ws) 0 1 again))
+    (λ new. omega (arith, distinct_new w ws new, cond-false {A = ℕ} (is_in w ws) 0 1 new))
+    (cases_Bool (is_in w ws))

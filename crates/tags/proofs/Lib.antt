@@ -1,3 +1,4 @@
+pub mod Takes
 pub mod Marks
 pub mod Distinct
 pub mod Spelling

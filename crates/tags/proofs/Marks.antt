@@ -1,8 +1,8 @@
 -- Which places of a palette other indices name, and the free place that a search over marks finds.
-use Rattle.std.proofs.Common.{◌≡◌, ℕ, zero, suc, ◌<◌, Bool, true, false, not, eqb, List, [], ◌∷◌, length, ◌≢◌, get_or, Some, None, Option, sym, refl, ap, ◌∙◌, subst, ⊎_elim, arith, MatchOption}
+use Rattle.std.proofs.Common.{◌≡◌, ℕ, zero, suc, ◌+◌, ◌<◌, Bool, true, false, not, ◌&&◌, ◌||◌, eqb, List, [], ◌∷◌, length, ◌≢◌, get_or, Some, None, Option, sym, refl, ap, ◌∙◌, subst, ⊎_elim, add-one, arith, MatchOption}
 use Rattle.std.specs.List.{slice_get}
 use Rattle.std.proofs.lemmas.Option.{slice_get-get_or, slice_get_within}
-use Rattle.std.proofs.lemmas.Bool.{eq-eqb, ne_eqb, and_from, or_left, or_right, cases_eq, not_from_false, and_parts, or_cases, eqb-true, eqb-false, not-true, both_ways, or_from, cases_lt}
+use Rattle.std.proofs.lemmas.Bool.{eq-eqb, ne_eqb, and_from, and_left, and_right, or_left, or_right, cases_eq, not_from_true, not_from_false, and_parts, or_cases, eqb-true, eqb-false, not-true, both_ways, or_from, cases_lt}
 use Rattle.cells.specs.Rows.{Lowest}
 use Rattle.tags.specs.declared.palette.block.Block.{Block}
 use Rattle.tags.specs.Palettes.{palette_places, is_in}
@@ -72,3 +72,18 @@ module _ (b : Block) (used i w : ℕ) where
   place_found None none r free other = spot_free none r (free other)
   place_found (Some p) found r free same =
       subst (λ (x : Option ℕ). MatchOption x (Full b used i w) (Spot b used i w)) (sym same) (spot_found p found)
+
+or_false_left : (x y : Bool) → x ≡ false → (x || y) ≡ y
+or_false_left true y e = absurd (both_ways true e refl)
+or_false_left false y e = refl
+
+-- an index that names another place takes nothing, nor does the one left out
+module _ (indices : List ℕ) (i p : ℕ) where
+  taken_more : (n : ℕ) → taken indices i p (n + 1) ≡ ((not (eqb n i) && eqb (place_of (get_or indices n 0)) p) || taken indices i p n)
+  taken_more n = ap (taken indices i p) (add-one n)
+
+  pub taken_apart : (n : ℕ) → (place_of (get_or indices n 0) ≡ p → ⊥) → taken indices i p (n + 1) ≡ taken indices i p n
+  taken_apart n apart = taken_more n ∙ or_false_left _ _ (and_right _ _ (ne_eqb _ p apart))
+
+  pub taken_itself : (n : ℕ) → n ≡ i → taken indices i p (n + 1) ≡ taken indices i p n
+  taken_itself n same = taken_more n ∙ or_false_left _ _ (and_left _ _ (not_from_true _ (eq-eqb n i same)))

@@ -4,7 +4,7 @@ use Rattle.std.specs.List.{slice_get}
 use Rattle.std.specs.Result.{OnOk, OnErr, IsOkUnless}
 use Rattle.std.proofs.lemmas.List.{set-get_or, get_or-set_same, get_or-set_other, get_or_append_left, get_or_push, length_push, ext_get_or, get_or_default}
 use Rattle.std.proofs.lemmas.Option.{slice_get-get_or}
-use Rattle.std.proofs.lemmas.Bool.{cases_eq, and_left, and_right, and_from, lt-leb, lt-ltb}
+use Rattle.std.proofs.lemmas.Bool.{cases_eq, and_left, and_right, and_from, lt-leb, lt-ltb, le-ltb}
 use Rattle.cells.specs.declared.refusal.Refusal.{Refusal}
 use Rattle.cells.specs.declared.refusal.Refusal.TheVariants.{StoreFull}
 use Rattle.cells.specs.Refusals.{Answer, answer, refuse_if}
@@ -250,3 +250,13 @@ module _ (blocks : List Block) (count : ℕ) (fits : count ≤ min (length block
         held = palette_held blocks count (omega arith) (omega arith);
         tidy = tidy;
       })
+
+  -- a word that is not there cannot be changed
+  pub no_word : (n : ℕ) → count ≤ n → can_change (palette_admits (length blocks)) (palette_words blocks count) n w ≡ false
+  no_word n past =
+      let long = words_long blocks count (omega arith) in and_left _ _ (le-ltb n (length (palette_words blocks count)) (omega arith))
+
+  -- a word that is there and whose change is admitted can be changed
+  pub can_change_lem : (n : ℕ) → n < count → palette_admits (length blocks) (set (palette_words blocks count) n w) ≡ true → can_change (palette_admits (length blocks)) (palette_words blocks count) n w ≡ true
+  can_change_lem n low admitted =
+      let long = words_long blocks count (omega arith) in and_from _ _ (lt-ltb n (length (palette_words blocks count)) (omega arith)) admitted

@@ -57,7 +57,7 @@ impl Spot {
 }
 
 // Places each cell with the tag that it gets in this kind, and seals the map.
-pub fn fill<P: NodePool, S: TagStore, K: TagKind, F: Fn(&Spot) -> Result<K, Refusal>>(
+pub(crate) fn fill<P: NodePool, S: TagStore, K: TagKind, F: Fn(&Spot) -> Result<K, Refusal>>(
     map: &mut Map<P, S, K>,
     tag_of: F,
 ) -> Result<(), Refusal>

@@ -48,11 +48,14 @@ pub fn print_looks<P: NodePool, S: TagStore, K: TagKind>(
             y: at,
             z: at,
         };
-        print!(rt; "{name} at ({at}, {at}, {at}): ")?;
+        // one call a line, so that output that ends early ends with a whole line
         match map.look(cell) {
-            Ok(Some(Found { rank, tag })) => println!(rt; "rank {rank}, word {}", tag.word())?,
-            Ok(None) => println!(rt; "free")?,
-            Err(refusal) => println!(rt; "refused with {refusal}")?,
+            Ok(Some(Found { rank, tag })) => {
+                let word = tag.word();
+                println!(rt; "{name} at ({at}, {at}, {at}): rank {rank}, word {word}")?;
+            }
+            Ok(None) => println!(rt; "{name} at ({at}, {at}, {at}): free")?,
+            Err(refusal) => println!(rt; "{name} at ({at}, {at}, {at}): refused with {refusal}")?,
         }
     }
     Ok(())

@@ -1,6 +1,6 @@
 -- A delivered map: its words as tags, and what it stands for.
 use Rattle.std.proofs.Common.{◌≡◌, ℕ, zero, suc, ◌+◌, add-zero, zero-add, ◌<◌, ◌≤◌, Bool, true, false, leb, List, [], ◌∷◌, map, length, get_or, is_some, Some, None, Option, sym, refl, ap, ◌∙◌, subst, ap₂, arith}
-use Rattle.std.specs.List.{list_all, range_with_len}
+use Rattle.std.specs.List.{slice_get, list_all, range_with_len}
 use Rattle.std.specs.Option.{option_and_then}
 use Rattle.std.proofs.lemmas.List.{length-map}
 use Rattle.std.proofs.lemmas.Option.{slice_get-get_or}
@@ -18,6 +18,12 @@ use Rattle.voxels.specs.Stands.{SealedAs}
 use Rattle.voxels.specs.Adopts.{tag_at, AllTags, TagsFit, Verdict, tags_of, with_tag, bad_levels, not_sealed, tags_unfit}
 
 -- ---- a store's words, one by one
+
+pub word_at : (words : List ℕ) (n w : ℕ) → n < length words → slice_get words n ≡ Some w → get_or words n 0 ≡ w
+word_at words n w h e = let f = slice_get-get_or words n 0 h in cc
+
+pub word_there : (words : List ℕ) (n : ℕ) → n < length words → slice_get words n ≡ None → ⊥
+word_there words n h e = let f = slice_get-get_or words n 0 h in let z : ◌≡◌ {A = ℕ} 0 1 = cc in omega arith
 
 -- a test of each number of a range
 each_below : (test : ℕ → Bool) (a n : ℕ) → list_all test (range_with_len a n) ≡ true → (k : ℕ) → k < n → test (a + k) ≡ true

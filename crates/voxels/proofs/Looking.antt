@@ -2,9 +2,10 @@
 use Rattle.std.proofs.Common.{◌≡◌, ℕ, zero, suc, ◌^◌, ◌<◌, ◌≤◌, Bool, true, false, cond, not, List, [], ◌∷◌, map, length, Some, None, Option, sym, refl, ap, ◌∙◌, subst, arith}
 use Rattle.std.specs.Option.{option_map}
 use Rattle.std.specs.List.{slice_get}
-use Rattle.cells.specs.Refusals.{Answer, gives, refuse_if}
+use Rattle.cells.specs.Refusals.{Answer, gives, refuses, refuse_if}
 use Rattle.cells.specs.Hall.{levels_fit, cell_fits, code_of}
 use Rattle.cells.specs.declared.hall.Cell.{Cell}
+use Rattle.cells.proofs.Checks.{passed, goes_on}
 use Rattle.cells.proofs.Codes.{code_below, levels_fit_lem}
 use Rattle.nodes.specs.Records.{none}
 use Rattle.nodes.specs.declared.node.Node.{Node}
@@ -25,6 +26,30 @@ use Rattle.voxels.specs.Tells.{looked, LookTells}
 
 given_same : (a b : ℕ) → gives a ≡ gives b → a ≡ b
 given_same a b e = cc
+
+-- a cell of the hall is looked up by its code
+pub look_sealed : {K : Type 0} (reading : ℕ → Option K) (phase : Phase) (L : ℕ) (ns : List Node) (words : List ℕ) (cell : Cell) (code : ℕ) (r : Option (Found K))
+    → phase ≡ Sealed → gives code ≡ refuse_if (not (levels_fit L)) 1 (refuse_if (not (cell_fits L cell)) 3 (gives (code_of L cell)))
+    → r ≡ shows reading words (found L ns code) → gives r ≡ look_answer reading phase L ns words cell
+look_sealed reading phase L ns words cell code r z e f =
+    let p = passed (not (levels_fit L)) 1 (refuse_if (not (cell_fits L cell)) 3 (gives (code_of L cell))) code e in
+    let q = passed (not (cell_fits L cell)) 3 (gives (code_of L cell)) code p.1 in
+    let s : code ≡ code_of L cell = given_same code (code_of L cell) q.1 in
+    ap gives (f ∙ ap (λ c. shows reading words (found L ns c)) s)
+    ∙ ap (λ b. refuse_if b 3 (gives (shows reading words (found L ns (code_of L cell))))) (sym q.0)
+    ∙ ap (λ h. look_answer reading h L ns words cell) (sym z)
+
+refused_same : {A B : Type 0} (b : Bool) (n : ℕ) (v : A) (w : B) → refuses n ≡ refuse_if b 3 (gives v) → refuses n ≡ refuse_if b 3 (gives w)
+refused_same true n v w e = let f : n ≡ 3 = cc in ap refuses f
+refused_same false n v w e = let z : ◌≡◌ {A = ℕ} 0 1 = cc in absurd (omega arith)
+
+-- a cell outside is refused
+pub look_outside : {K : Type 0} (reading : ℕ → Option K) (phase : Phase) (L : ℕ) (ns : List Node) (words : List ℕ) (cell : Cell) (n : ℕ)
+    → phase ≡ Sealed → levels_fit L ≡ true → refuses n ≡ refuse_if (not (levels_fit L)) 1 (refuse_if (not (cell_fits L cell)) 3 (gives (code_of L cell)))
+    → refuses n ≡ look_answer reading phase L ns words cell
+look_outside reading phase L ns words cell n z fit e =
+    refused_same (not (cell_fits L cell)) n (code_of L cell) (shows reading words (found L ns (code_of L cell))) (e ∙ goes_on (levels_fit L) 1 _ fit)
+    ∙ ap (λ h. look_answer reading h L ns words cell) (sym z)
 
 -- a sealed map has 1 to 10 levels
 pub sealed_fit : (phase : Phase) (L : ℕ) → phase ≡ Sealed → levels_in phase L ≡ true → levels_fit L ≡ true

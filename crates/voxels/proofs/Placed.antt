@@ -1,10 +1,10 @@
 -- What place makes of an open map.
-use Rattle.std.proofs.Common.{◌≡◌, ℕ, ◌+◌, ◌^◌, ◌<◌, ◌≤◌, Bool, true, false, not, ltb, List, [], ◌∷◌, ◌++◌, length, Some, None, Ok, Err, Option, inl, inr, sym, refl, ap, ◌∙◌, subst, arith}
+use Rattle.std.proofs.Common.{◌≡◌, ℕ, ◌+◌, ◌^◌, ◌<◌, ◌≤◌, Bool, true, false, cond, not, ltb, leb, List, [], ◌∷◌, ◌++◌, length, Some, None, Ok, Err, Option, inl, inr, sym, refl, ap, ◌∙◌, subst, arith}
 use mathlib.Core.List.{map-append}
 use Rattle.std.specs.List.{AllByRecursion}
 use Rattle.std.proofs.ByRecursion.{All-weaker, All-push}
 use Rattle.std.proofs.lemmas.List.{length_push}
-use Rattle.std.proofs.lemmas.Bool.{lt-ltb, le-ltb, lt-leb}
+use Rattle.std.proofs.lemmas.Bool.{lt-ltb, le-ltb, le-leb, lt-leb}
 use Rattle.cells.specs.Refusals.{Answer, gives, refuses, refuse_if, number_of}
 use Rattle.cells.specs.declared.refusal.Refusal.{Refusal}
 use Rattle.cells.specs.Hall.{levels_fit}
@@ -18,9 +18,10 @@ use Rattle.dag.specs.Rows.{stage_row}
 use Rattle.dag.proofs.Depends.{below_none}
 use Rattle.dag.proofs.Next.{set_push, push_last, push_one, first_last, first_one, rows_ready, counts_ready, rows_start, counts_start}
 use Rattle.voxels.specs.declared.phase.Phase.{Phase}
+use Rattle.voxels.specs.declared.phase.Phase.TheVariants.{Open}
 use Rattle.voxels.specs.declared.row.OpenRow.{OpenRow}
 use Rattle.voxels.specs.Closes.{RowsFor}
-use Rattle.voxels.specs.Places.{CellTaken, place_told}
+use Rattle.voxels.specs.Places.{CellTaken, place_told, place_early, Early}
 use Rattle.voxels.specs.Stages.{AtStage, Closed}
 use Rattle.voxels.specs.Stands.{OpenAs, Building, EmptyRows}
 use Rattle.voxels.proofs.Few.{holds_above, holds_none}
@@ -57,6 +58,17 @@ module _ (L : ℕ) (cells : List ℕ) (room : ℕ) (admits : List ℕ → Bool) 
 no_cells : (a b : ℕ) → holds [] a b ≡ false
 unfolding count
 no_cells a b = refl
+
+-- a code that is not above the last is refused early
+pub early_not_above : (phase : Phase) (L m code : ℕ) (last : Option ℕ) → phase ≡ Open → last ≡ Some m → code < 8 ^ L → code ≤ m → Early (place_early phase L last code) (refuses 4)
+early_not_above phase L m code last e f h l =
+    subst (λ p. Early (place_early p L last code) (refuses 4)) (sym e)
+    (subst (λ o. Early (place_early Open L o code) (refuses 4)) (sym f) (go (leb (8 ^ L) code) (leb code m) (lt-leb (8 ^ L) code h) (le-leb code m l)))
+  where
+    go : (a b : Bool) → a ≡ false → b ≡ true → Early (cond a (Some 3) (cond b (Some 4) None)) (refuses 4)
+    go false true p q = refl
+    go true b p q = let z : ◌≡◌ {A = ℕ} 0 1 = cc in absurd (omega arith)
+    go false false p q = let z : ◌≡◌ {A = ℕ} 0 1 = cc in absurd (omega arith)
 
 -- ---- the map with the cell
 

@@ -1,11 +1,11 @@
 -- What retag answers on a map that stands for cells and tags, and what the map stands for after it.
-use Rattle.std.proofs.Common.{◌≡◌, ℕ, ◌+◌, ◌^◌, ◌<◌, ◌≤◌, Bool, true, false, cond, not, ◌&&◌, List, length, set, Some, None, sym, refl, ap, ◌∙◌, subst, ap₂, arith}
+use Rattle.std.proofs.Common.{◌≡◌, ℕ, ◌+◌, ◌^◌, ◌<◌, ◌≤◌, Bool, true, false, cond, not, ◌&&◌, List, length, set, Some, None, Option, sym, refl, ap, ◌∙◌, subst, ap₂, arith}
 use Rattle.std.proofs.lemmas.Bool.{lt-ltb}
 use Rattle.std.proofs.lemmas.List.{length-map, length-set, map-set}
 use Rattle.cells.specs.Refusals.{Answer, gives, refuses, refuse_if}
-use Rattle.cells.specs.Hall.{cell_fits, code_of}
+use Rattle.cells.specs.Hall.{levels_fit, cell_fits, code_of}
 use Rattle.cells.specs.declared.hall.Cell.{Cell}
-use Rattle.cells.proofs.Checks.{goes_on}
+use Rattle.cells.proofs.Checks.{passed, goes_on}
 use Rattle.cells.proofs.Codes.{code_below, levels_fit_lem}
 use Rattle.nodes.specs.Records.{none}
 use Rattle.tags.specs.Stores.{can_change}
@@ -38,6 +38,21 @@ with_words m words admits = record {
   words = words;
   admits = admits;
 }
+
+-- a code that was made is the cell's, and the cell lies in the hall
+pub inside_code : (L : ℕ) (cell : Cell) (code : ℕ) → gives code ≡ refuse_if (not (levels_fit L)) 1 (refuse_if (not (cell_fits L cell)) 3 (gives (code_of L cell)))
+    → (code ≡ code_of L cell) × (cell_fits L cell ≡ true)
+inside_code L cell code e =
+    let p = passed (not (levels_fit L)) 1 (refuse_if (not (cell_fits L cell)) 3 (gives (code_of L cell))) code e in
+    let q = passed (not (cell_fits L cell)) 3 (gives (code_of L cell)) code p.1 in
+    (same code (code_of L cell) q.1, held (cell_fits L cell) q.0)
+  where
+    same : (a b : ℕ) → gives a ≡ gives b → a ≡ b
+    same a b e = cc
+
+    held : (b : Bool) → not b ≡ false → b ≡ true
+    held true e = refl
+    held false e = let z : ◌≡◌ {A = ℕ} 0 1 = cc in absurd (omega arith)
 
 -- a cell of the set has a rank below the number of cells
 rank_below : (L : ℕ) (cells : List ℕ) (code : ℕ) → CellSet L cells → code < 8 ^ L → has cells code ≡ true → count cells 0 code < length cells
@@ -131,10 +146,9 @@ module _ {K : Type 0} (word_of : K → ℕ) (L : ℕ) (cells : List ℕ) (tags :
           f ∙ ap (λ b. refuse_if (not b) 3 (refuse_if (not (has cells code)) 5 (refuse_if (not (m.admits (set m.words (count cells 0 code) (word_of tag)))) 7 (gives tt))))
           (sym fits ∙ ap (λ l. cell_fits l cell) s.levels_are)
 
--- a cell that was looked up in a sealed map, by its code and the rank that the walk found
-module _ (m : Shown) (cell : Cell) (w count code n : ℕ) (a : Answer (Unit {0}))
-    (e : gives count ≡ if_sealed m.phase (gives m.levels)) (c : gives code ≡ refuse_if (not (cell_fits count cell)) 3 (gives (code_of count cell)))
-    (f : Some n ≡ found count m.nodes code) (told : a ≡ refuse_if (not (can_change m.admits m.words n w)) 7 (gives tt)) where
+-- a cell that was looked up in a sealed map, by its code and what the walk found
+module _ (m : Shown) (cell : Cell) (w count code : ℕ) (a : Answer (Unit {0}))
+    (e : gives count ≡ if_sealed m.phase (gives m.levels)) (c : gives code ≡ refuse_if (not (cell_fits count cell)) 3 (gives (code_of count cell))) where
   made : (b : Bool) → gives code ≡ refuse_if (not b) 3 (gives (code_of count cell)) → (b ≡ true) × (code ≡ code_of count cell)
   made true h = (refl, cc)
   made false h = let z : ◌≡◌ {A = ℕ} 0 1 = cc in absurd (omega arith)
@@ -142,9 +156,9 @@ module _ (m : Shown) (cell : Cell) (w count code n : ℕ) (a : Answer (Unit {0})
   is_sealed : (m.phase ≡ Sealed) × (count ≡ m.levels)
   is_sealed = sealed_is m.phase m.levels count e
 
-  -- the answer of the store is that of the call
-  pub answered_by : a ≡ retag_answer m cell w
-  answered_by =
+  -- the answer by what was found is that of the call
+  pub answered_by : (o : Option ℕ) → o ≡ found count m.nodes code → a ≡ retag_at m w o → a ≡ retag_answer m cell w
+  answered_by o f told =
       let p = made (cell_fits count cell) c in
       told ∙ ap (retag_at m w) (f ∙ ap (found count m.nodes) p.1)
       ∙ sym (goes_on (cell_fits count cell) 3 (retag_at m w (found count m.nodes (code_of count cell))) p.0)
@@ -152,9 +166,10 @@ module _ (m : Shown) (cell : Cell) (w count code n : ℕ) (a : Answer (Unit {0})
       ∙ ap (λ p. if_sealed p (refuse_if (not (cell_fits m.levels cell)) 3 (retag_at m w (found m.levels m.nodes (code_of m.levels cell))))) (sym is_sealed.0)
 
   -- what the store's change leaves of the map
-  pub changed_by : (words : List ℕ) (admits : List ℕ → Bool) → words ≡ cond (can_change m.admits m.words n w) (set m.words n w) m.words → admits ≡ m.admits
+  pub changed_by : (n : ℕ) → Some n ≡ found count m.nodes code → a ≡ retag_at m w (Some n)
+      → (words : List ℕ) (admits : List ℕ → Bool) → words ≡ cond (can_change m.admits m.words n w) (set m.words n w) m.words → admits ≡ m.admits
       → Changes cell w m (with_words m words admits) a
-  changed_by words admits is rule =
+  changed_by n f told words admits is rule =
       subst (λ x. Accepted x (with_words m words admits ≡ with_word m (rank m.levels m.nodes (code_of m.levels cell)) w)) (sym told) (go (can_change m.admits m.words n w) is)
     where
       there : (b : Bool) → Some n ≡ cond b (Some (rank count m.nodes code)) None → n ≡ rank count m.nodes code

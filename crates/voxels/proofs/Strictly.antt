@@ -1,11 +1,13 @@
 -- What strictest answers on a sealed map.
-use Rattle.std.proofs.Common.{◌≡◌, ℕ, ◌^◌, ◌<◌, ◌≤◌, Bool, true, false, not, ◌&&◌, ◌||◌, List, map, length, Some, None, Option, sym, ap, ◌∙◌, subst, ap₂, zero-mul, arith}
+use Rattle.std.proofs.Common.{◌≡◌, ℕ, ◌^◌, ◌<◌, ◌≤◌, Bool, true, false, not, ◌&&◌, ◌||◌, List, map, length, Some, None, Option, sym, refl, ap, ◌∙◌, subst, ap₂, zero-mul, arith}
 use native.Mathlib.Nat.{pow-le-pow_right}
+use Rattle.std.proofs.lemmas.Bool.{and_parts}
 use Rattle.cells.specs.Refusals.{Answer, gives, refuses, refuse_if}
-use Rattle.cells.specs.Hall.{cell_fits}
+use Rattle.cells.specs.Hall.{levels_fit, cell_fits}
 use Rattle.cells.specs.Boxes.{not_above}
 use Rattle.cells.specs.declared.hall.Cell.{Cell}
 use Rattle.cells.specs.declared.boxes.CellBox.{CellBox}
+use Rattle.cells.proofs.Checks.{passed, goes_on}
 use Rattle.cells.proofs.Codes.{levels_fit_lem}
 use Rattle.nodes.specs.Records.{none}
 use Rattle.nodes.specs.declared.node.Node.{Node}
@@ -56,6 +58,29 @@ module _ {K : Type 0} (reading : ℕ → Option K) (stricter : K → K → Bool)
 
 -- ---- the answer
 
+-- what a box that was made tells of its corners
+pub box_made : (L : ℕ) (low high : Cell) (bounds : CellBox)
+    → gives bounds ≡ refuse_if (not (levels_fit L)) 1 (refuse_if (not (cell_fits L low && cell_fits L high)) 3 (refuse_if (not (not_above low high)) 8 (gives (record { low = low; high = high }))))
+    → (bounds ≡ record { low = low; high = high }) × (levels_fit L ≡ true) × (cell_fits L low ≡ true) × (cell_fits L high ≡ true) × (not_above low high ≡ true)
+box_made L low high bounds e =
+    let p = passed (not (levels_fit L)) 1 _ bounds e in
+    let q = passed (not (cell_fits L low && cell_fits L high)) 3 _ bounds p.1 in
+    let r = passed (not (not_above low high)) 8 _ bounds q.1 in
+    let both = and_parts (cell_fits L low) (cell_fits L high) (held (cell_fits L low && cell_fits L high) q.0) in
+    (same bounds (record { low = low; high = high }) r.1, held (levels_fit L) p.0, both.0, both.1, held (not_above low high) r.0)
+  where
+    same : (a b : CellBox) → gives a ≡ gives b → a ≡ b
+    same a b e = cc
+
+    held : (b : Bool) → not b ≡ false → b ≡ true
+    held true e = refl
+    held false e = let z : ◌≡◌ {A = ℕ} 0 1 = cc in absurd (omega arith)
+
+-- a good box gives its value
+pub box_gives : {A : Type 0} (L : ℕ) (low high : Cell) (value : A) → cell_fits L low ≡ true → cell_fits L high ≡ true → not_above low high ≡ true → gives value ≡ if_box L low high value
+box_gives L low high value l h n =
+    sym (goes_on (cell_fits L low && cell_fits L high) 3 (refuse_if (not (not_above low high)) 8 (gives value)) (ap₂ (λ a b. a && b) l h) ∙ goes_on (not_above low high) 8 (gives value) n)
+
 -- corners that make no box are refused, whatever would be answered of it
 pub box_refuses : {A : Type 0} (L : ℕ) (low high : Cell) (value : A) (bounds : CellBox) (n : ℕ)
     → refuses n ≡ refuse_if (not (cell_fits L low && cell_fits L high)) 3 (refuse_if (not (not_above low high)) 8 (gives bounds))
@@ -69,6 +94,13 @@ box_refuses L low high value bounds n e = go (not (cell_fits L low && cell_fits 
     go true b f = ap refuses (number 3 f)
     go false true f = ap refuses (number 8 f)
     go false false f = let z : ◌≡◌ {A = ℕ} 0 1 = cc in absurd (omega arith)
+
+-- a box that was refused is refused here, where the levels were tested too
+pub box_refuses_levels : {A : Type 0} (L : ℕ) (low high : Cell) (value : A) (bounds : CellBox) (n : ℕ) → levels_fit L ≡ true
+    → refuses n ≡ refuse_if (not (levels_fit L)) 1 (refuse_if (not (cell_fits L low && cell_fits L high)) 3 (refuse_if (not (not_above low high)) 8 (gives bounds)))
+    → refuses n ≡ if_box L low high value
+box_refuses_levels L low high value bounds n fit e =
+    box_refuses L low high value bounds n (e ∙ goes_on (levels_fit L) 1 _ fit)
 
 -- on a sealed map
 pub if_sealed_lem : {A : Type 0} (m : Shown) (next : Answer A) → m.phase ≡ Sealed → if_sealed m.phase next ≡ next

@@ -1,14 +1,19 @@
 -- One step of a walk, by what the code reads of a record.
-use Rattle.std.proofs.Common.{◌≡◌, ℕ, zero, suc, ◌+◌, ◌/◌, ◌%◌, ◌^◌, ◌<◌, ◌≤◌, Bool, true, false, cond, eqb, not, List, [], length, Some, None, sym, refl, ap, ◌∙◌, subst, add-zero, mod-lt, arith}
+use Rattle.std.proofs.Common.{◌≡◌, ℕ, zero, suc, ◌+◌, ◌*◌, ◌/◌, ◌%◌, ◌^◌, ◌<◌, ◌≤◌, Bool, true, false, cond, eqb, not, List, [], length, Some, None, sym, refl, ap, ◌∙◌, subst, add-zero, mod-lt, arith}
 use Rattle.std.proofs.lemmas.Bool.{and_from, and_left, and_right, lt-ltb, le-ltb, eq-eqb, ne_eqb, eqb-true, eqb-false}
 use Rattle.cells.specs.Hall.{bit}
 use Rattle.cells.specs.SubCubes.{child, sub_cube}
+use Rattle.cells.proofs.Codes.{eight}
 use Rattle.nodes.specs.Records.{none}
 use Rattle.nodes.specs.declared.node.Node.{Node}
 use Rattle.dag.specs.Rules.{node_at, link_of, offset_of}
 use Rattle.dag.specs.Walk.{leads, walk, path, total, root, rank}
 use Rattle.dag.proofs.Marks.{child_is, walk_shut, walk_stray, walk_on, path_more, path_none}
 use Rattle.voxels.specs.Finds.{Shut, GoesTo, found}
+
+-- the child that the code takes is that of the definition
+pub child_taken : (k code : ℕ) → code / 2 ^ (3 * k) % 8 ≡ child (suc k) code
+child_taken k code = ap (λ p. code / p % 8) (eight k) ∙ sym (child_is k code)
 
 -- a bit of a mask is set, or it is not
 pub bit_set : (i m : ℕ) (b : Bool) → b ≡ eqb (bit i m) 1 → b ≡ true → bit i m ≡ 0 → ⊥

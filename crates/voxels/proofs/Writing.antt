@@ -1,5 +1,5 @@
 -- Writing entries one behind another, each in so many bytes.
-use Rattle.std.proofs.Common.{◌≡◌, ℕ, suc, ◌+◌, ◌-◌, ◌*◌, ◌^◌, ◌<◌, ◌≤◌, List, [], ◌∷◌, ◌++◌, map, length, get_or, take, drop, Some, None, sym, refl, ap, ◌∙◌, subst, ap₂, append_assoc, mul-le-mul_left, mul-suc, add-one, arith, take-append-drop}
+use Rattle.std.proofs.Common.{◌≡◌, ℕ, suc, ◌+◌, ◌-◌, ◌*◌, ◌^◌, ◌<◌, ◌≤◌, List, [], ◌∷◌, ◌++◌, map, length, get_or, take, drop, Some, None, sym, refl, ap, ◌∙◌, subst, ap₂, append_assoc, mul-le-mul_left, mul-zero, mul-suc, add-one, arith, take-append-drop}
 use borrow.Rule.Slice.PartMut.{put_mid}
 use Rattle.std.specs.List.{slice_get, flat_map, AllByRecursion}
 use Rattle.std.proofs.lemmas.Option.{slice_get-get_or}
@@ -15,6 +15,9 @@ pub record Front {X : Type 0} (f : X → List ℕ) (w i : ℕ) (xs : List X) (be
   pub rest : drop (w * i) after ≡ drop (w * i) before
 
 module _ {X : Type 0} (f : X → List ℕ) (w : ℕ) (xs : List X) (before : List ℕ) where
+  pub front_none : Front f w 0 xs before before
+  front_none = record { entries = ap (λ n. take n before) (mul-zero w); rest = refl }
+
   -- one more entry
   pub front_more : (i a k : ℕ) (bs part : List ℕ) (d : X) → i < length xs → a ≡ w * i → k ≡ w → a + w ≤ length bs → part ≡ f (get_or xs i d) → length part ≡ w
       → Front f w i xs before bs → Front f w (i + 1) xs before (put_mid a k bs part)

@@ -1,7 +1,7 @@
 use Rattle.std.proofs.Common.{ap, rules}
 use Rattle.nodes.specs.LentPools.{span_inside}
 use Rattle.nodes.proofs.LentCalls.{stays_cut, kept}
-use Rattle.nodes.proofs.lent_pool.PoolNodePool.cut.Goals as goal
+use Rattle.nodes.proofs.lent_pool.Pool.keep.Goals as goal
 
 pub invariant_of-self : goal.invariant_of-self
 invariant_of-self g c =
